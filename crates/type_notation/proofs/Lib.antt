@@ -1,0 +1,4 @@
+pub mod Prefixes
+pub mod Dues
+pub mod Depths
+pub mod Built
