@@ -28,13 +28,13 @@ step-same c d X Y e = go (twice c) refl (twice d) refl e
 step-some : (c : ℕ) (X : List ℕ) → (Y : List ℕ) × (step c X ≡ c ∷ Y)
 step-some c X = elim (twice c) as (λ b. (Y : List ℕ) × (cond b (c ∷ (c ∷ X)) (c ∷ X) ≡ c ∷ Y)) [ true ↦ (c ∷ X, refl) | false ↦ (X, refl) ]
 
-step-twice : (c : ℕ) (X : List ℕ) → twice c ≡ true → step c X ≡ c ∷ (c ∷ X)
+pub step-twice : (c : ℕ) (X : List ℕ) → twice c ≡ true → step c X ≡ c ∷ (c ∷ X)
 step-twice c X e = ap (λ b. cond b (c ∷ (c ∷ X)) (c ∷ X)) e
 
-step-joins : (c : ℕ) (X Y : List ℕ) → step c (X ++ Y) ≡ step c X ++ Y
+pub step-joins : (c : ℕ) (X Y : List ℕ) → step c (X ++ Y) ≡ step c X ++ Y
 step-joins c X Y = elim (twice c) as (λ b. cond b (c ∷ (c ∷ (X ++ Y))) (c ∷ (X ++ Y)) ≡ cond b (c ∷ (c ∷ X)) (c ∷ X) ++ Y) [ true ↦ refl | false ↦ refl ]
 
-inner-joins : (t X Y : List ℕ) → inner t (X ++ Y) ≡ inner t X ++ Y
+pub inner-joins : (t X Y : List ℕ) → inner t (X ++ Y) ≡ inner t X ++ Y
 inner-joins [] X Y = refl
 inner-joins (c ∷ t) X Y = ap (step c) (inner-joins t X Y) ∙ step-joins c (inner t X) Y
 
