@@ -11,7 +11,8 @@ use Rattle.type_notation.proofs.Prefixes.{shape-of, parts-of, shape-parts, sha
 use Rattle.type_notation.specs.declared.shape.Shape.{Shape}
 use Rattle.type_notation.specs.declared.shape.Shape.the-variants.{Number, Text, Compound, List as Entries, Table}
 use Rattle.type_notation.specs.Shapes.{arity, shape-text, NoShape, Builds, BuildsAll}
-use Rattle.type_notation.specs.TypeTexts.{count, type-text, type-texts, sound, sounds, TypeForm}
+use Rattle.type_notation.specs.TypeTexts.{TypeForm}
+use Rattle.types.specs.Texts.{count, type-text, type-texts, sound, sounds}
 use Rattle.types.specs.Model.{Ty, Tys, number, texts, comps, lists, tables, end, also}
 
 -- a type is its shape and its parts

@@ -10,7 +10,8 @@ use Rattle.std.proofs.shelf.Tests.{and-parts, and-from}
 use Rattle.type_notation.proofs.Prefixes.{shape-of, parts-of, shape-parts, shape-counts, shape-sound, shape-same}
 use Rattle.type_notation.specs.declared.shape.Shape.{Shape}
 use Rattle.type_notation.specs.Shapes.{arity, shape-text, NoShape, Nests}
-use Rattle.type_notation.specs.TypeTexts.{count, type-text, type-texts, sound, sounds, depth, depths, TypeForm}
+use Rattle.type_notation.specs.TypeTexts.{depth, depths, TypeForm}
+use Rattle.types.specs.Texts.{count, type-text, type-texts, sound, sounds}
 use Rattle.types.specs.Model.{Ty, Tys, number, texts, comps, lists, tables, end, also}
 
 depth-parts : (t : Ty) → depth t ≡ 1 + depths (parts-of t)

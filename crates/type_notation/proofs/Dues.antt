@@ -12,7 +12,7 @@ use Rattle.type_notation.proofs.Prefixes.{types-in, types-out, first-of}
 use Rattle.type_notation.specs.declared.shape.Shape.{Shape}
 use Rattle.type_notation.specs.declared.shape.Shape.the-variants.{Number, Text, Compound, List as Entries, Table}
 use Rattle.type_notation.specs.Shapes.{arity, shape-text, Shapely, Types, NoShape, GotType, NoType}
-use Rattle.type_notation.specs.TypeTexts.{count, type-text, type-texts, sound, sounds}
+use Rattle.types.specs.Texts.{count, type-text, type-texts, sound, sounds}
 use Rattle.types.specs.Model.{Ty, Tys, number, end, also}
 
 -- ---- where no type goes on

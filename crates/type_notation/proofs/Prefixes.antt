@@ -13,7 +13,8 @@ use Rattle.std.proofs.shelf.Tests.{and-parts, and-from, le-leb, leb-true}
 use Rattle.type_notation.specs.declared.shape.Shape.{Shape}
 use Rattle.type_notation.specs.declared.shape.Shape.the-variants.{Number, Text, Compound, List as Entries, Table}
 use Rattle.type_notation.specs.Shapes.{arity, shape-text, Shapely, Types, NoShape}
-use Rattle.type_notation.specs.TypeTexts.{count, type-text, type-texts, sound, sounds, TypeForm}
+use Rattle.type_notation.specs.TypeTexts.{TypeForm}
+use Rattle.types.specs.Texts.{count, type-text, type-texts, sound, sounds}
 use Rattle.types.specs.Model.{Ty, Tys, number, texts, comps, lists, tables, end, also}
 
 -- two texts that begin with different bytes are not the same

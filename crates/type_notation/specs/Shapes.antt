@@ -7,7 +7,8 @@ use lib.ListN.{length, drop}
 use Rattle.type_notation.specs.declared.shape.Shape.{Shape}
 use Rattle.type_notation.specs.declared.shape.Shape.the-variants.{Number, Text, Compound, List as Entries, Table}
 use Rattle.reading.specs.Reading.{SameHead, Stuck}
-use Rattle.type_notation.specs.TypeTexts.{count, type-text, type-texts, sound, sounds, depths}
+use Rattle.type_notation.specs.TypeTexts.{depths}
+use Rattle.types.specs.Texts.{count, type-text, type-texts, sound, sounds}
 use Rattle.std.specs.declared.option.Option.{Option}
 use Rattle.std.specs.declared.option.Option.the-variants.{None, Some}
 use Rattle.std.specs.declared.result.Result.{Result}

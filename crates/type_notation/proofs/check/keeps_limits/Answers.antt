@@ -6,7 +6,8 @@ use native.Mathlib.Omega.{arith}
 use Rattle.std.proofs.shelf.Tests.{le-leb}
 use Rattle.type_notation.proofs.check.keeps_limits.Needs as need
 use Rattle.type_notation.proofs.Depths.{nests-one}
-use Rattle.type_notation.specs.TypeTexts.{type-text, depth}
+use Rattle.type_notation.specs.TypeTexts.{depth}
+use Rattle.types.specs.Texts.{type-text}
 
 pub returns-then-s-le-LENGTH-LIMIT : need.returns-then-s-le-LENGTH-LIMIT
 returns-then-s-le-LENGTH-LIMIT c t f =
