@@ -1,2 +1,5 @@
 pub mod Places
 pub mod Kept
+pub mod Gathered
+pub mod Selected
+pub mod Numbers

@@ -6,7 +6,6 @@ use crate::value_type::Fields;
 use crate::value_type::ValueType;
 use values::Entries;
 use values::Row;
-use values::SIZE_LIMIT;
 use values::Value;
 
 // The highest number; the lowest is its opposite.
@@ -17,7 +16,7 @@ impl ValueType {
     pub fn admits(&self, value: &Value) -> bool
         ensures { λ r. ⌜ r ≡ of (ty-of (now (self .entry))) (val (now (value .entry))) ⌝ }
     {
-        value.size() <= SIZE_LIMIT && is_formed(value, self)
+        value.fits() && is_formed(value, self)
     }
 }
 

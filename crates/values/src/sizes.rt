@@ -1,5 +1,6 @@
 ghost use mathlib.Core.Path.{_≡_};
 ghost use Prim.Native.Nat.{ℕ, _-_, _^_, min};
+ghost use lib.Dec.{leb};
 ghost use Rattle.values.specs.Means.{val, vals, pairs};
 ghost use Rattle.values.specs.Sizes.{size, sizes, pair-sizes};
 use crate::value::Entries;
@@ -20,6 +21,13 @@ impl Value {
             Value::Compound(row) | Value::List(row) => size_of_row(row).saturating_add(1),
             Value::Table(entries) => size_of_entries(entries).saturating_add(1),
         }
+    }
+
+    // Whether the size is within the limit.
+    pub fn fits(&self) -> bool
+        ensures { λ r. ⌜ r ≡ leb (size (val (now (self .entry)))) 256 ⌝ }
+    {
+        self.size() <= SIZE_LIMIT
     }
 }
 
