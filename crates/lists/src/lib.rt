@@ -1,6 +1,8 @@
 // Lists, and the rows of compounds: insertion, removal, membership, and rows made of values or of a range of numbers.
 // Promise: each operation is equal to its definition, and keeps "is a value of this type" whenever the size allows.
 // The hard idea: the one search gives the place, and only the front of a row is copied; what follows is shared.
+#![tactic(auto)]
+
 mod edits;
 mod ranges;
 mod rows;

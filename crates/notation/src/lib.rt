@@ -2,6 +2,8 @@
 // Promise: a reader inverts the writer: it answers the one word that is written so, refuses for syntax exactly when none is,
 // with the byte where the longest beginning that some right form shares ends, and refuses for a limit only after that.
 // The hard idea: one theorem of unique readability for each kind of word.
+#![tactic(auto)]
+
 mod names;
 mod numbers;
 mod texts;

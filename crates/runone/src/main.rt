@@ -1,5 +1,7 @@
 // The program: it reads a sheet from standard input, and prints it in order of name with every list and table in order; or
 // the number of the first denial. The work is in crate `sheets`.
+#![tactic(auto)]
+
 use sheets::{INPUT_LIMIT, settle};
 use std::alloc::AllocError;
 use std::io;

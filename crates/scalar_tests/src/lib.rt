@@ -1,4 +1,6 @@
 // Examples of the operations on texts and numbers.
+#![tactic(auto)]
+
 #[cfg(test)]
 mod tests {
     use scalars::numbers::{floor_div, floor_mod};

@@ -2,6 +2,8 @@
 // Promise: the lines up to the first empty one are declared and filled in turn, and the targets are written in order of name,
 // with their contents in order; or the first line that is wrong is denied, by the first of its faults.
 // The hard idea: the definition of a line says what each denial means, and that no earlier check of the line failed.
+#![tactic(auto)]
+
 mod cut;
 mod fault;
 mod keep;

@@ -2,6 +2,8 @@
 // Promise: each operation is equal to its definition, and keeps "is a value of this type" whenever the size allows.
 // The hard idea: every operation leaves the entries before one place as they are, and changes only what begins there; so one
 // search gives the place, one copy of the front serves them all, and one lemma says what they did.
+#![tactic(auto)]
+
 mod edits;
 mod reads;
 mod walk;
