@@ -17,7 +17,7 @@ pub fn build_type(heap: Global, s: &[u8]) -> Result<ValueType, AllocError>
 }
 
 // The type that stands at a place, and the place after it.
-#[cycle(fields_at_type_at)]
+#[cycle(type_at)]
 fn type_at(heap: Global, s: &[u8], at: usize) -> Result<(ValueType, usize), AllocError>
     ensures { IfOk result (λ p. (at ≤ p.1) × Builds s.now at (ty_of p.0) p.1) }
 {
@@ -47,7 +47,7 @@ fn type_at(heap: Global, s: &[u8], at: usize) -> Result<(ValueType, usize), Allo
 }
 
 // The types that stand one after the other at a place, and the place after them.
-#[cycle(fields_at_type_at)]
+#[cycle(type_at)]
 fn fields_at(heap: Global, s: &[u8], at: usize, count: u8) -> Result<(Fields, usize), AllocError>
     ensures { IfOk result (λ p. (at ≤ p.1) × BuildsAll s.now at count (tys_of p.0) p.1) }
 {

@@ -18,7 +18,7 @@ impl ValueType {
     }
 }
 
-#[cycle(are_all_formed_are_pairs_formed_is_each_formed_is_formed)]
+#[cycle(formed)]
 fn is_formed(value: &Value, expected: &ValueType) -> bool
     ensures { result ≡ formed (val value.now) (ty_of expected.now) }
 {
@@ -51,7 +51,7 @@ fn is_formed(value: &Value, expected: &ValueType) -> bool
     }
 }
 
-#[cycle(are_all_formed_are_pairs_formed_is_each_formed_is_formed)]
+#[cycle(formed)]
 fn is_each_formed(row: &Row, fields: &Fields) -> bool
     ensures { result ≡ each_formed (vals row.now) (tys_of fields.now) }
 {
@@ -68,7 +68,7 @@ fn is_each_formed(row: &Row, fields: &Fields) -> bool
     }
 }
 
-#[cycle(are_all_formed_are_pairs_formed_is_each_formed_is_formed)]
+#[cycle(formed)]
 fn are_all_formed(row: &Row, item: &ValueType) -> bool
     ensures { result ≡ all_formed (vals row.now) (ty_of item.now) }
 {
@@ -78,7 +78,7 @@ fn are_all_formed(row: &Row, item: &ValueType) -> bool
     }
 }
 
-#[cycle(are_all_formed_are_pairs_formed_is_each_formed_is_formed)]
+#[cycle(formed)]
 fn are_pairs_formed(entries: &Entries, key: &ValueType, associate: &ValueType) -> bool
     ensures { result ≡ pairs_formed (pairs entries.now) (ty_of key.now) (ty_of associate.now) }
 {

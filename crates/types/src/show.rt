@@ -15,7 +15,7 @@ impl fmt::Display for ValueType {
     }
 }
 
-#[cycle(show_fields_show_type)]
+#[cycle(show)]
 fn show_type<W: fmt::Write>(shown: &ValueType, f: &mut fmt::Formatter<W>) -> fmt::Result
     ensures { sound (ty_of shown.now) ≡ true → WritesOnOk write_str_gives f.old result (type_text (ty_of shown.now)) f.new }
 {
@@ -39,7 +39,7 @@ fn show_type<W: fmt::Write>(shown: &ValueType, f: &mut fmt::Formatter<W>) -> fmt
     }
 }
 
-#[cycle(show_fields_show_type)]
+#[cycle(show)]
 fn show_fields<W: fmt::Write>(fields: &Fields, f: &mut fmt::Formatter<W>) -> fmt::Result
     ensures { sounds (tys_of fields.now) ≡ true → WritesOnOk write_str_gives f.old result (type_texts (tys_of fields.now)) f.new }
 {

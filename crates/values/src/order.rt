@@ -22,7 +22,7 @@ impl Value {
     }
 }
 
-#[cycle(compare_entries_compare_rows_compare_values)]
+#[cycle(order)]
 fn compare_values(a: &Value, b: &Value) -> Ordering
     ensures { result ≡ cmp (val a.now) (val b.now) }
 {
@@ -55,7 +55,7 @@ fn compare_values(a: &Value, b: &Value) -> Ordering
     }
 }
 
-#[cycle(compare_entries_compare_rows_compare_values)]
+#[cycle(order)]
 fn compare_rows(a: &Row, b: &Row) -> Ordering
     ensures { result ≡ cmps (vals a.now) (vals b.now) }
 {
@@ -74,7 +74,7 @@ fn compare_rows(a: &Row, b: &Row) -> Ordering
     }
 }
 
-#[cycle(compare_entries_compare_rows_compare_values)]
+#[cycle(order)]
 fn compare_entries(a: &Entries, b: &Entries) -> Ordering
     ensures { result ≡ cmp_pairs (pairs a.now) (pairs b.now) }
 {

@@ -18,7 +18,7 @@ pub fn write_display(out: &mut [u8], at: usize, value: &Value) -> Option<usize>
     Some(put_value(out, at, value))
 }
 
-#[cycle(put_entries_put_items_put_value)]
+#[cycle(put)]
 fn put_value(out: &mut [u8], at: usize, value: &Value) -> usize
     requires { at + length (written (val value.now)) ≤ length out.old }
     ensures { Wrote out.old out.new at (written (val value.now)) result }
@@ -45,7 +45,7 @@ fn put_value(out: &mut [u8], at: usize, value: &Value) -> usize
     }
 }
 
-#[cycle(put_entries_put_items_put_value)]
+#[cycle(put)]
 fn put_items(out: &mut [u8], at: usize, row: &Row, first: bool, sep: u8, close: u8) -> usize
     requires { at + length (shown_items (vals row.now) first sep close []) ≤ length out.old }
     ensures { Wrote out.old out.new at (shown_items (vals row.now) first sep close []) result }
@@ -60,7 +60,7 @@ fn put_items(out: &mut [u8], at: usize, row: &Row, first: bool, sep: u8, close: 
     }
 }
 
-#[cycle(put_entries_put_items_put_value)]
+#[cycle(put)]
 fn put_entries(out: &mut [u8], at: usize, entries: &Entries, first: bool) -> usize
     requires { at + length (shown_entries (pairs entries.now) first []) ≤ length out.old }
     ensures { Wrote out.old out.new at (shown_entries (pairs entries.now) first []) result }

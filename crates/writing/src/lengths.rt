@@ -16,7 +16,7 @@ pub fn display_length(value: &Value) -> usize
     value_length(value)
 }
 
-#[cycle(entries_length_items_length_value_length)]
+#[cycle(lengths)]
 fn value_length(value: &Value) -> usize
     ensures { result ≡ min (length (written (val value.now))) (2 ^ 64 - 1) }
 {
@@ -28,7 +28,7 @@ fn value_length(value: &Value) -> usize
     }
 }
 
-#[cycle(entries_length_items_length_value_length)]
+#[cycle(lengths)]
 fn items_length(row: &Row, first: bool) -> usize
     ensures { (sep close : ℕ) → result ≡ min (length (shown_items (vals row.now) first sep close [])) (2 ^ 64 - 1) }
 {
@@ -41,7 +41,7 @@ fn items_length(row: &Row, first: bool) -> usize
     }
 }
 
-#[cycle(entries_length_items_length_value_length)]
+#[cycle(lengths)]
 fn entries_length(entries: &Entries, first: bool) -> usize
     ensures { result ≡ min (length (shown_entries (pairs entries.now) first [])) (2 ^ 64 - 1) }
 {

@@ -5,4 +5,4 @@ use Rattle.values.proofs.Ordered.{equal_decides}
 use Rattle.values.proofs.value.Value.equals.Goals as goal
 
 pub returns : goal.returns
-returns c = Decides-at _ _ (c.is-eq.ensures ∙ ap is_eq c.compare-values.ensures) (equal_decides _ _)
+returns c = Decides-at _ _ (c.is_eq.ensures ∙ ap is_eq c.compare_values.ensures) (equal_decides _ _)

@@ -1,7 +1,7 @@
 use Rattle.values.proofs.value.Entries.TheLaws as entries
 use Rattle.values.proofs.value.Row.TheLaws as rows
 use Rattle.values.proofs.value.Value.TheLaws as values
-use Rattle.writing.proofs.lengths.+entries_length_items_length_value_length.Given as goal
+use Rattle.writing.proofs.lengths.+lengths.Given as goal
 
 abbrev pub decreases-value-length : goal.decreases-value-length
 decreases-value-length l = values.the_size l.value.now

@@ -1,7 +1,7 @@
 use Rattle.std.proofs.Common.{◌≡◌, ◌+◌, true, ◌&&◌, leb, [], ◌∷◌, is_ok, sym, ap, ◌∙◌, rules}
 use Rattle.std.proofs.Output.{has_written_append, has_written_of_eq}
 use Rattle.std.proofs.lemmas.Bool.{and_parts, leb-true}
-use Rattle.types.proofs.show.+show_fields_show_type.Goals as goal
+use Rattle.types.proofs.show.+show.Goals as goal
 use Rattle.types.specs.Model.{ty_of, tys_of, comps, lists, tables, also}
 use Rattle.types.specs.Texts.{count, type_text, type_texts, sound, sounds}
 

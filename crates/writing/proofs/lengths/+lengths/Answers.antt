@@ -1,6 +1,6 @@
 use Rattle.std.proofs.Common.{◌-◌, [], length, ap, ◌∙◌, rules}
 use Rattle.values.specs.Means.{val, vals, pairs}
-use Rattle.writing.proofs.lengths.+entries_length_items_length_value_length.Goals as goal
+use Rattle.writing.proofs.lengths.+lengths.Goals as goal
 use Rattle.writing.proofs.Pieces.{parted_long, text_long, items_long, entries_long}
 use Rattle.writing.specs.Displays.{shown_items, shown_entries}
 

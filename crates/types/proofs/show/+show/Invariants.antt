@@ -1,4 +1,4 @@
-use Rattle.types.proofs.show.+show_fields_show_type.Given as goal
+use Rattle.types.proofs.show.+show.Given as goal
 use Rattle.types.proofs.value_type.Fields.TheLaws as fields
 use Rattle.types.proofs.value_type.ValueType.TheLaws as types
 

@@ -2,7 +2,7 @@ use Rattle.std.proofs.Common.{◌≡◌, true, false, [], ◌∷◌, ◌++◌, l
 use Rattle.notation.specs.Texts.{inner}
 use Rattle.values.specs.Means.{val, vals, pairs}
 use Rattle.writing.proofs.Areas.{wrote_more, wrote_so}
-use Rattle.writing.proofs.displays.+put_entries_put_items_put_value.Goals as goal
+use Rattle.writing.proofs.displays.+put.Goals as goal
 use Rattle.writing.proofs.Pieces.{text_pieces, items_pieces, entries_pieces, text_long, items_long, entries_long}
 use Rattle.writing.specs.Displays.{parted, written, shown_items, shown_entries}
 

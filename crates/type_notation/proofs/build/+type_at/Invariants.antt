@@ -1,5 +1,5 @@
 use Rattle.std.proofs.Common.{◌+◌, ◌-◌, ◌*◌, length}
-use Rattle.type_notation.proofs.build.+fields_at_type_at.Given as goal
+use Rattle.type_notation.proofs.build.+type_at.Given as goal
 
 -- a type takes at least a byte, and a compound has at most four fields
 abbrev pub decreases-fields-at : goal.decreases-fields-at

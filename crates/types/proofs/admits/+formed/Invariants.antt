@@ -1,7 +1,7 @@
 use Rattle.values.proofs.value.Entries.TheLaws as entries
 use Rattle.values.proofs.value.Row.TheLaws as rows
 use Rattle.values.proofs.value.Value.TheLaws as values
-use Rattle.types.proofs.admits.+are_all_formed_are_pairs_formed_is_each_formed_is_formed.Given as goal
+use Rattle.types.proofs.admits.+formed.Given as goal
 
 abbrev pub decreases-are-all-formed : goal.decreases-are-all-formed
 decreases-are-all-formed l = rows.the_size l.row.now

@@ -1,5 +1,5 @@
 use Rattle.std.proofs.Common.{◌≡◌, ◌++◌, drop, sym, ap, ◌∙◌, subst, arith, rules}
-use Rattle.type_notation.proofs.build.+fields_at_type_at.Goals as goal
+use Rattle.type_notation.proofs.build.+type_at.Goals as goal
 use Rattle.type_notation.proofs.Built.{builds_wrong, builds_number, builds_text, builds_compound, builds_list, builds_table, builds_end, builds_also}
 use Rattle.types.specs.Model.{Ty, Tys, ty_of, tys_of, lists, tables, also}
 use Rattle.type_notation.specs.Shapes.{shape_text, Builds, BuildsAll}

@@ -1,7 +1,7 @@
 use Rattle.values.proofs.value.Entries.TheLaws as entries
 use Rattle.values.proofs.value.Row.TheLaws as rows
 use Rattle.values.proofs.value.Value.TheLaws as values
-use Rattle.writing.proofs.displays.+put_entries_put_items_put_value.Given as goal
+use Rattle.writing.proofs.displays.+put.Given as goal
 
 abbrev pub decreases-put-entries : goal.decreases-put-entries
 decreases-put-entries l = entries.the_size l.entries.now
