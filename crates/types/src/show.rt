@@ -17,7 +17,7 @@ impl fmt::Display for ValueType {
 
 #[cycle(show)]
 fn show_type<W: fmt::Write>(shown: &ValueType, f: &mut fmt::Formatter<W>) -> fmt::Result
-    ensures { sound (ty_of shown.now) ≡ true → WritesOnOk write_str_gives f.old result (type_text (ty_of shown.now)) f.new }
+    ensures { sound (ty_of shown.now) ≡ true → WritesOnOk W.write_str_gives f.old result (type_text (ty_of shown.now)) f.new }
 {
     match shown {
         ValueType::Number => f.write_str("n"),
@@ -41,7 +41,7 @@ fn show_type<W: fmt::Write>(shown: &ValueType, f: &mut fmt::Formatter<W>) -> fmt
 
 #[cycle(show)]
 fn show_fields<W: fmt::Write>(fields: &Fields, f: &mut fmt::Formatter<W>) -> fmt::Result
-    ensures { sounds (tys_of fields.now) ≡ true → WritesOnOk write_str_gives f.old result (type_texts (tys_of fields.now)) f.new }
+    ensures { sounds (tys_of fields.now) ≡ true → WritesOnOk W.write_str_gives f.old result (type_texts (tys_of fields.now)) f.new }
 {
     match fields {
         Fields::End => Ok(()),

@@ -4,6 +4,6 @@ use Rattle.displays.proofs.Passing.{past_mark}
 
 pub returns : goal.returns
 returns c =
-    let e = c.in-ok-inside.ensures in
+    let e = c.in_ok-inside.ensures in
     let p = past_mark _ _ _ [] _ e in
     (p.0, p.1, e.2, c.if-begins.ensures)

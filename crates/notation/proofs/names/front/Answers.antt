@@ -9,8 +9,8 @@ loop-i-preserved c =
     let r = run_more _ _ _ e (search rules) in
     omega (arith, c.loop-i.invariant)
 
-pub returns-else-is-name-code : goal.returns-else-is-name-code
-returns-else-is-name-code c =
+pub returns-else-is_name_code : goal.returns-else-is_name_code
+returns-else-is_name_code c =
     let e = drop_more c.args.s.now c.loop-i.i 0 (search rules) in
     let r = run_none _ _ _ e (search rules) in
     omega (arith, c.loop-i.invariant)

@@ -11,6 +11,6 @@ returns-then-first-eq0 c = (omega arith, λ h. omega (arith, c.requires.0), minu
 
 pub returns-else-first-eq0 : goal.returns-else-first-eq0
 returns-else-first-eq0 c =
-    let e = c.digits-from-natural.ensures in
-    let small : c.digits-from-natural.result.value ≤ 999999999 = e.2.so.small in
+    let e = c.digits_from-natural.ensures in
+    let small : c.digits_from-natural.result.value ≤ 999999999 = e.2.so.small in
     (omega (arith, e.0), e.1, minus_number _ _ _ _ _ _ _ _ c.requires.1 c.in-Some.ensures.1 (omega (arith, c.if-first-eq0.false)) e.2 (omega (arith, ints)))

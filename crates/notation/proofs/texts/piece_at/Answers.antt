@@ -14,12 +14,12 @@ returns-in-96-2 c =
     let f = e.1 in
     (omega arith, λ h. omega (arith, e.0), end_back _ _ (cc) c.if-begins-2.ensures)
 
-pub returns-in-default : goal.returns-in-default
-returns-in-default c =
+pub returns-in_default : goal.returns-in_default
+returns-in_default c =
     let n : printable c.in-Some.b ≡ false = grind (arith, nat_tests) in
     (omega arith, λ h. h, end_byte _ _ _ c.in-Some.ensures.1 n)
 
-pub returns-in-default·2 : goal.returns-in-default·2
-returns-in-default·2 c =
+pub returns-in_default·2 : goal.returns-in_default·2
+returns-in_default·2 c =
     let n : printable c.in-Some.b ≡ false = grind (arith, nat_tests) in
     (omega arith, λ h. h, end_byte _ _ _ c.in-Some.ensures.1 n)

@@ -9,5 +9,5 @@ pub returns : goal.returns
 returns c =
     let s = c.args.a.now in
     let t = c.args.b.now in
-    let m : IfOk c.text-of.result (λ v. val v ≡ text (s ++ t)) = search rules in
-    record { value = m; law = IfOk-weaker c.text-of.result _ _ (λ v e. append_kept s t (val v) e) m }
+    let m : IfOk c.text_of.result (λ v. val v ≡ text (s ++ t)) = search rules in
+    record { value = m; law = IfOk-weaker c.text_of.result _ _ (λ v e. append_kept s t (val v) e) m }

@@ -9,6 +9,6 @@ pub returns : goal.returns
 returns c =
     let s = c.args.codes.now in
     let n = c.args.count in
-    let v = val c.in-ok-text-of.field-0 in
+    let v = val c.in_ok-text_of.field-0 in
     let e : v ≡ text (take (nat_abs n) s) = search rules in
     record { value = prefix_within s n v (search rules) (search rules) e; law = take_kept (nat_abs n) s v e }

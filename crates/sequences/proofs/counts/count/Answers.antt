@@ -13,10 +13,10 @@ returns-in-Text c =
 
 pub returns-in-List : goal.returns-in-List
 returns-in-List c =
-    let e : Some c.count-row.result ≡ counted (val c.args.value.now) = search rules in
+    let e : Some c.count_row.result ≡ counted (val c.args.value.now) = search rules in
     record { value = e; law = few_counted _ _ e }
 
 pub returns-in-Table : goal.returns-in-Table
 returns-in-Table c =
-    let e : Some c.count-entries.result ≡ counted (val c.args.value.now) = search rules in
+    let e : Some c.count_entries.result ≡ counted (val c.args.value.now) = search rules in
     record { value = e; law = few_counted _ _ e }

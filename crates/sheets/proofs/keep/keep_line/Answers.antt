@@ -10,20 +10,20 @@ use Rattle.values.specs.Means.{val}
 
 pub insert-requires : goal.insert-requires
 insert-requires c =
-    let p = c.in-ok-place.ensures in
-    let n = length-map c.as-slice.result.now target_of in
-    omega (arith, p.3, c.as-slice.ensures.len)
+    let p = c.in_ok-place.ensures in
+    let n = length-map c.as_slice.result.now target_of in
+    omega (arith, p.3, c.as_slice.ensures.len)
 
 pub returns : goal.returns
 returns c =
     let items = vec_items c.args.targets.now in
-    let w = c.in-ok-check-words.ensures in
-    let p = c.in-ok-place.ensures in
-    let same = c.as-slice.ensures.value in
+    let w = c.in_ok-check_words.ensures in
+    let p = c.in_ok-place.ensures in
+    let same = c.as_slice.ensures.value in
     let y = w.1.0 in
-    let g = c.in-ok-content.ensures y w.1.1 in
+    let g = c.in_ok-content.ensures y w.1.1 in
     let name = c.in-Some.fields.name.now in
     let new = ap (λ r. among name (map target_of r)) (sym same) ∙ p.0 in
     let room = subst (λ r. length (map target_of r) < 16) same p.1 in
-    let at = placed_inserted _ items c.in-ok-place.place (p.2 ∙ ap (λ r. rank by_code name (names (map target_of r))) same) in
-    line_done (map target_of items) c.args.line.now (fields_of c.in-Some.fields) y (option_map val c.in-ok-content.content) _ (sym c.in-Some.ensures) c.requires (record { named = w.0; typed = w.1.1; new = new; room = room }) g.0 g.1 (ap (map target_of) c.in-ok-insert.ensures.items ∙ at)
+    let at = placed_inserted _ items c.in_ok-place.place (p.2 ∙ ap (λ r. rank by_code name (names (map target_of r))) same) in
+    line_done (map target_of items) c.args.line.now (fields_of c.in-Some.fields) y (option_map val c.in_ok-content.content) _ (sym c.in-Some.ensures) c.requires (record { named = w.0; typed = w.1.1; new = new; room = room }) g.0 g.1 (ap (map target_of) c.in_ok-insert.ensures.items ∙ at)

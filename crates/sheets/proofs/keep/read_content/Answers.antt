@@ -5,13 +5,13 @@ use Rattle.std.proofs.lemmas.List.{nil_from_length}
 use Rattle.types.specs.Types.{Of}
 use Rattle.values.specs.Means.{val}
 
-pub returns-then-is-empty : goal.returns-then-is-empty
-returns-then-is-empty c y h = (nil_from_length c.args.fields.display.now (search rules), tt)
+pub returns-then-is_empty : goal.returns-then-is_empty
+returns-then-is_empty c y h = (nil_from_length c.args.fields.display.now (search rules), tt)
 
 pub returns : goal.returns
 returns c y h =
-    let e = c.in-ok-expected.ensures y h.0 in
-    let d = c.in-ok-read-display.ensures in
-    let v = val c.in-ok-read-display.field-0 in
+    let e = c.in_ok-expected.ensures y h.0 in
+    let d = c.in_ok-read_display.ensures in
+    let v = val c.in_ok-read_display.field-0 in
     let some : length c.args.fields.display.now ≡ 0 → ⊥ = search rules in
     ((λ i. some (ap length i), subst (λ t. MeantBy t c.args.fields.display.now v) e d.value), subst (λ t. Of t v) e d.typed)

@@ -4,12 +4,12 @@ use Rattle.sheets.proofs.Written.{sheet_more, sound_at}
 use Rattle.sheets.specs.Targets.{target_of, sheet_text}
 use Rattle.std.proofs.lemmas.List.{take_all}
 
-pub write-target-requires : goal.write-target-requires
-write-target-requires c = sound_at c.args.targets.now c.loop-target.target-index c.target-item.result c.loop-target-test.true c.target-item.is c.requires
+pub write_target-requires : goal.write_target-requires
+write_target-requires c = sound_at c.args.targets.now c.loop-target.target-index c.target-item.result c.loop-target-test.true c.target-item.is c.requires
 
 pub loop-target-preserved : goal.loop-target-preserved
 loop-target-preserved c =
-    let w = c.in-ok-write-target.ensures in
+    let w = c.in_ok-write_target.ensures in
     let i = c.loop-target.invariant in
     let m = sheet_more c.args.targets.now c.loop-target.target-index c.target-item.result c.loop-target-test.true c.target-item.is in
     cc

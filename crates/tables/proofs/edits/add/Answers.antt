@@ -32,7 +32,7 @@ returns c =
     let n = rank by_entry (entry k a) (entries_of p) in
     let i = changed_spliced by_entry (entry k a) (entered k a) p q f.onward in
     let s = entered_standing k a p q c.find-place.result.found f.onward f.here ∙ ap (λ t. cond t q (pair k a q)) c.if-place.false in
-    let t : pairs c.in-ok-tail.tail ≡ entered k a q = search (rules, s) in
+    let t : pairs c.in_ok-tail.tail ≡ entered k a q = search (rules, s) in
     let m : IfOk c.splice.result (λ q. pairs q ≡ added k a p) =
     IfOk-weaker c.splice.result _ _ (λ q e. e n f.place ∙ ap (spliced n p) t ∙ sym i) c.splice.ensures
     in

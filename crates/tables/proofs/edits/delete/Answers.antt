@@ -29,8 +29,8 @@ returns c =
     let n = rank by_key (keyed k) (entries_of p) in
     let i = changed_spliced by_key (keyed k) (past by_key (keyed k)) p q f.onward in
     let b = past_standing by_key (keyed k) p q c.find-place.result.found f.onward f.here in
-    let t : pairs c.in-ok-tail.tail ≡ past by_key (keyed k) q = search (rules, b) in
-    let e = c.in-ok-splice.ensures n f.place ∙ ap (spliced n p) t ∙ sym i in
+    let t : pairs c.in_ok-tail.tail ≡ past by_key (keyed k) q = search (rules, b) in
+    let e = c.in_ok-splice.ensures n f.place ∙ ap (spliced n p) t ∙ sym i in
     record {
       value = ap Some e ∙ ap (λ t. cond t (Some (changed by_key (keyed k) (past by_key (keyed k)) p)) None) (sym c.if-not-place.false ∙ f.here);
       law = deletion k p _ e;

@@ -18,7 +18,7 @@ returns c =
     let f = c.find-place.ensures.place in
     let i = changed_spliced by_key (keyed k) (λ r. pair k a (past by_key (keyed k) r)) p q f.onward in
     let b = past_standing by_key (keyed k) p q c.find-place.result.found f.onward f.here in
-    let t : pairs c.in-ok-tail.tail ≡ pair k a (past by_key (keyed k) q) = search (rules, b) in
+    let t : pairs c.in_ok-tail.tail ≡ pair k a (past by_key (keyed k) q) = search (rules, b) in
     let m : IfOk c.splice.result (λ q. pairs q ≡ associated k a p) =
     IfOk-weaker c.splice.result _ _ (λ q e. e (rank by_key (keyed k) (entries_of p)) f.place ∙ ap (spliced (rank by_key (keyed k) (entries_of p)) p) t ∙ sym i) c.splice.ensures
     in

@@ -7,5 +7,5 @@ use Rattle.values.specs.Means.{pairs}
 
 pub returns : goal.returns
 returns c =
-    let i = c.in-ok-count.ensures in
+    let i = c.in_ok-count.ensures in
     IfOk-weaker c.onto.result _ _ (λ q e n h. e ∙ ap (λ m. spliced m (pairs c.args.entries.now) (pairs c.args.tail)) (counted _ n (i.0 ∙ h) i.1)) c.onto.ensures

@@ -4,55 +4,55 @@ use Rattle.type_notation.proofs.Built.{builds_wrong, builds_number, builds_text,
 use Rattle.types.specs.Model.{Ty, Tys, ty_of, tys_of, lists, tables, also}
 use Rattle.type_notation.specs.Shapes.{shape_text, Builds, BuildsAll}
 
-pub fields-at-returns-then-count-eq0 : goal.fields-at-returns-then-count-eq0
-fields-at-returns-then-count-eq0 t c = (omega arith, builds_end c.args.s.now c.args.at c.args.count c.if-count-eq0.true)
+pub fields_at-returns-then-count-eq0 : goal.fields_at-returns-then-count-eq0
+fields_at-returns-then-count-eq0 t c = (omega arith, builds_end c.args.s.now c.args.at c.args.count c.if-count-eq0.true)
 
-pub fields-at-returns : goal.fields-at-returns
-fields-at-returns t c =
-    let h = c.in-ok-head.ensures in
-    let k = c.in-ok-rest.ensures in
-    let e : also (ty_of c.in-ok-new.field-0.value.head) (tys_of c.in-ok-new.field-0.value.rest) ≡ also (ty_of c.in-ok-head.head) (tys_of c.in-ok-rest.rest) = search rules in (
+pub fields_at-returns : goal.fields_at-returns
+fields_at-returns t c =
+    let h = c.in_ok-head.ensures in
+    let k = c.in_ok-rest.ensures in
+    let e : also (ty_of c.in_ok-new.field-0.value.head) (tys_of c.in_ok-new.field-0.value.rest) ≡ also (ty_of c.in_ok-head.head) (tys_of c.in_ok-rest.rest) = search rules in (
       omega (arith, h.0, k.0),
-      subst (λ (ts : Tys). BuildsAll c.args.s.now c.args.at c.args.count ts c.in-ok-rest.end) (sym e)
-          (builds_also c.args.s.now c.args.at c.args.count c.in-ok-head.next c.in-ok-rest.end _ _ c.if-count-eq0.false h.1 k.1),
+      subst (λ (ts : Tys). BuildsAll c.args.s.now c.args.at c.args.count ts c.in_ok-rest.end) (sym e)
+          (builds_also c.args.s.now c.args.at c.args.count c.in_ok-head.next c.in_ok-rest.end _ _ c.if-count-eq0.false h.1 k.1),
     )
 
-pub type-at-returns-in-Err : goal.type-at-returns-in-Err
-type-at-returns-in-Err t c = let e = c.in-Err.ensures in (e.0, builds_wrong c.args.s.now c.args.at c.in-Err.place _ _ e.2)
+pub type_at-returns-in-Err : goal.type_at-returns-in-Err
+type_at-returns-in-Err t c = let e = c.in-Err.ensures in (e.0, builds_wrong c.args.s.now c.args.at c.in-Err.place _ _ e.2)
 
-pub type-at-returns-in-Number : goal.type-at-returns-in-Number
-type-at-returns-in-Number t c =
+pub type_at-returns-in-Number : goal.type_at-returns-in-Number
+type_at-returns-in-Number t c =
     let k = c.in-Ok.ensures in
     (omega (arith, k.0), builds_number c.args.s.now c.args.at c.in-Ok.middle (k.2 ∙ ap (λ h. shape_text h ++ drop c.in-Ok.middle c.args.s.now) c.in-Number.is))
 
-pub type-at-returns-in-Text : goal.type-at-returns-in-Text
-type-at-returns-in-Text t c =
+pub type_at-returns-in-Text : goal.type_at-returns-in-Text
+type_at-returns-in-Text t c =
     let k = c.in-Ok.ensures in
     (omega (arith, k.0), builds_text c.args.s.now c.args.at c.in-Ok.middle (k.2 ∙ ap (λ h. shape_text h ++ drop c.in-Ok.middle c.args.s.now) c.in-Text.is))
 
-pub type-at-returns-in-ok-fields : goal.type-at-returns-in-ok-fields
-type-at-returns-in-ok-fields t c =
+pub type_at-returns-in_ok-fields : goal.type_at-returns-in_ok-fields
+type_at-returns-in_ok-fields t c =
     let k = c.in-Ok.ensures in
-    let f = c.in-ok-fields.ensures in
+    let f = c.in_ok-fields.ensures in
     (omega (arith, k.0, f.0), builds_compound c.args.s.now c.args.at c.in-Ok.middle c.in-Compound.count _ _ (k.2 ∙ ap (λ h. shape_text h ++ drop c.in-Ok.middle c.args.s.now) c.in-Compound.is) f.1)
 
-pub type-at-returns-in-ok-new : goal.type-at-returns-in-ok-new
-type-at-returns-in-ok-new t c =
+pub type_at-returns-in_ok-new : goal.type_at-returns-in_ok-new
+type_at-returns-in_ok-new t c =
     let k = c.in-Ok.ensures in
-    let i = c.in-ok-item.ensures in
-    let e : lists (ty_of c.in-ok-new.field-0.value) ≡ lists (ty_of c.in-ok-item.item) = search rules in (
+    let i = c.in_ok-item.ensures in
+    let e : lists (ty_of c.in_ok-new.field-0.value) ≡ lists (ty_of c.in_ok-item.item) = search rules in (
       omega (arith, k.0, i.0),
-      subst (λ (x : Ty). Builds c.args.s.now c.args.at x c.in-ok-item.end) (sym e)
+      subst (λ (x : Ty). Builds c.args.s.now c.args.at x c.in_ok-item.end) (sym e)
           (builds_list c.args.s.now c.args.at c.in-Ok.middle _ _ (k.2 ∙ ap (λ h. shape_text h ++ drop c.in-Ok.middle c.args.s.now) c.in-List.is) i.1),
     )
 
-pub type-at-returns-in-ok-new-2 : goal.type-at-returns-in-ok-new-2
-type-at-returns-in-ok-new-2 t c =
+pub type_at-returns-in_ok-new-2 : goal.type_at-returns-in_ok-new-2
+type_at-returns-in_ok-new-2 t c =
     let k = c.in-Ok.ensures in
-    let i = c.in-ok-key.ensures in
-    let j = c.in-ok-associate.ensures in
-    let e : tables (ty_of c.in-ok-new-2.field-0.value.key) (ty_of c.in-ok-new-2.field-0.value.associate) ≡ tables (ty_of c.in-ok-key.key) (ty_of c.in-ok-associate.associate) = search rules in (
+    let i = c.in_ok-key.ensures in
+    let j = c.in_ok-associate.ensures in
+    let e : tables (ty_of c.in_ok-new-2.field-0.value.key) (ty_of c.in_ok-new-2.field-0.value.associate) ≡ tables (ty_of c.in_ok-key.key) (ty_of c.in_ok-associate.associate) = search rules in (
       omega (arith, k.0, i.0, j.0),
-      subst (λ (x : Ty). Builds c.args.s.now c.args.at x c.in-ok-associate.end) (sym e)
-          (builds_table c.args.s.now c.args.at c.in-Ok.middle _ _ c.in-ok-key.next _ (k.2 ∙ ap (λ h. shape_text h ++ drop c.in-Ok.middle c.args.s.now) c.in-Table.is) i.1 j.1),
+      subst (λ (x : Ty). Builds c.args.s.now c.args.at x c.in_ok-associate.end) (sym e)
+          (builds_table c.args.s.now c.args.at c.in-Ok.middle _ _ c.in_ok-key.next _ (k.2 ∙ ap (λ h. shape_text h ++ drop c.in-Ok.middle c.args.s.now) c.in-Table.is) i.1 j.1),
     )

@@ -11,14 +11,14 @@ returns-then-end-s c =
     let e = c.in-Ok.ensures.1 in
     long_wrong _ _ _ _ type_readable _ e.0 _ e.1.0 e.1.1 tt c.if-end-s.true
 
-pub returns-then-not-keeps-limits : goal.returns-then-not-keeps-limits
-returns-then-not-keeps-limits c =
+pub returns-then-not-keeps_limits : goal.returns-then-not-keeps_limits
+returns-then-not-keeps_limits c =
     let e = c.in-Ok.ensures.1 in
     let w = whole_written _ _ _ _ type_readable _ e.0 _ e.1.0 e.1.1 tt c.if-end-s.false in
-    (e.0, w, sym (c.keeps-limits.ensures e.0 w.form) ∙ c.if-not-keeps-limits.true)
+    (e.0, w, sym (c.keeps_limits.ensures e.0 w.form) ∙ c.if-not-keeps_limits.true)
 
-pub returns-else-not-keeps-limits : goal.returns-else-not-keeps-limits
-returns-else-not-keeps-limits c =
+pub returns-else-not-keeps_limits : goal.returns-else-not-keeps_limits
+returns-else-not-keeps_limits c =
     let e = c.in-Ok.ensures.1 in
     let w = whole_written _ _ _ _ type_readable _ e.0 _ e.1.0 e.1.1 tt c.if-end-s.false in
-    (e.0, w, sym (c.keeps-limits.ensures e.0 w.form) ∙ c.if-not-keeps-limits.false, tt)
+    (e.0, w, sym (c.keeps_limits.ensures e.0 w.form) ∙ c.if-not-keeps_limits.false, tt)

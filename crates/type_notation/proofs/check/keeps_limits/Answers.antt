@@ -5,8 +5,8 @@ use Rattle.type_notation.proofs.Depths.{nests_one}
 use Rattle.type_notation.specs.TypeTexts.{depth}
 use Rattle.types.specs.Texts.{type_text}
 
-pub returns-then-s-le-LENGTH-LIMIT : goal.returns-then-s-le-LENGTH-LIMIT
-returns-then-s-le-LENGTH-LIMIT c t f =
+pub returns-then-s-le-LENGTH_LIMIT : goal.returns-then-s-le-LENGTH_LIMIT
+returns-then-s-le-LENGTH_LIMIT c t f =
     let l = ap length f.1 in
     let a = le-leb (length (type_text t)) 16 (omega arith) in
     let e = nests_one c.args.s.now _ _ c.deepest.ensures.nests t f in

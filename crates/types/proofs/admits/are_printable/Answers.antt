@@ -3,8 +3,8 @@ use Rattle.std.proofs.lemmas.List.{drop_more, drop_all}
 use Rattle.std.proofs.lemmas.Bool.{and_left}
 use Rattle.types.proofs.admits.are_printable.Goals as goal
 
-pub returns-then-not-is-printable : goal.returns-then-not-is-printable
-returns-then-not-is-printable c =
+pub returns-then-not-is_printable : goal.returns-then-not-is_printable
+returns-then-not-is_printable c =
     let e = drop_more c.args.codes.now c.loop-c.c-index 0 (search rules) in
     search (rules, e, and_left)
 

@@ -10,4 +10,4 @@ pub returns : goal.returns
 returns c =
     let e = ap (λ (b : Bool). parted b c.args.sep []) (sym c.if-first.false) in
     let l = ap length e in
-    wrote_so _ _ _ _ _ _ e (wrote_more _ _ _ _ _ _ (c.args.sep ∷ []) (32 ∷ []) c.put-byte-next.ensures c.put-byte.ensures (omega (arith, c.requires)))
+    wrote_so _ _ _ _ _ _ e (wrote_more _ _ _ _ _ _ (c.args.sep ∷ []) (32 ∷ []) c.put_byte-next.ensures c.put_byte.ensures (omega (arith, c.requires)))

@@ -9,7 +9,7 @@ loop-code-preserved c =
     let e = drop_more c.args.codes.now c.loop-code.code-index 0 (search rules) in
     let f = ap (λ l. length (inner l [])) e ∙ inner_long (get_or c.args.codes.now c.loop-code.code-index 0) (drop (c.loop-code.code-index + 1) c.args.codes.now) in
     let i = c.loop-code.invariant in
-    (omega (arith, c.saturating-add-count.ensures), omega (arith, f, i.0, i.1, c.saturating-add-count.ensures, c.code-length.ensures))
+    (omega (arith, c.saturating_add-count.ensures), omega (arith, f, i.0, i.1, c.saturating_add-count.ensures, c.code_length.ensures))
 
 pub returns : goal.returns
 returns c =

@@ -5,6 +5,6 @@ use Rattle.writing.proofs.lengths.display_length.Goals as goal
 
 pub returns : goal.returns
 returns c = record {
-  value = c.value-length.ensures;
-  short = λ t h. let b = display_short t (val c.args.value.now) h in omega (arith, c.value-length.ensures);
+  value = c.value_length.ensures;
+  short = λ t h. let b = display_short t (val c.args.value.now) h in omega (arith, c.value_length.ensures);
 }

@@ -11,4 +11,4 @@ returns-in-39 c =
     let t : twice c.args.code ≡ true = grind (arith, nat_tests) in
     let e = step_twice c.args.code [] t in
     let l = ap length e in
-    wrote_so _ _ _ _ _ _ (sym e) (wrote_more _ _ _ _ _ _ (c.args.code ∷ []) (c.args.code ∷ []) c.put-byte-next.ensures c.put-byte.ensures (omega (arith, c.requires)))
+    wrote_so _ _ _ _ _ _ (sym e) (wrote_more _ _ _ _ _ _ (c.args.code ∷ []) (c.args.code ∷ []) c.put_byte-next.ensures c.put_byte.ensures (omega (arith, c.requires)))

@@ -6,8 +6,8 @@ use Rattle.writing.proofs.put.put_codes.Goals as goal
 pub loop-code-init : goal.loop-code-init
 loop-code-init c = coding_starts _ _ _
 
-pub put-code-next-requires : goal.put-code-next-requires
-put-code-next-requires c =
+pub put_code-next-requires : goal.put_code-next-requires
+put_code-next-requires c =
     let e = drop_more c.args.codes.now c.loop-code.code-index 0 (search rules) in
     let r = coding_room _ _ _ _ _ _ c.loop-code.invariant c.requires _ _ e in
     search (rules, r)
@@ -15,7 +15,7 @@ put-code-next-requires c =
 pub loop-code-preserved : goal.loop-code-preserved
 loop-code-preserved c =
     let e = drop_more c.args.codes.now c.loop-code.code-index 0 (search rules) in
-    coding_more _ _ _ _ _ _ c.loop-code.invariant c.requires _ _ e _ _ c.put-code-next.ensures
+    coding_more _ _ _ _ _ _ c.loop-code.invariant c.requires _ _ e _ _ c.put_code-next.ensures
 
 pub returns : goal.returns
 returns c =
