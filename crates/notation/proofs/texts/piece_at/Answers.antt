@@ -19,7 +19,7 @@ returns-in_default c =
     let n : printable c.in-Some.b ≡ false = grind (arith, nat_tests) in
     (omega arith, λ h. h, end_byte _ _ _ c.in-Some.ensures.1 n)
 
-pub returns-in_default·2 : goal.returns-in_default·2
-returns-in_default·2 c =
+pub returns-in_default-2 : goal.returns-in_default-2
+returns-in_default-2 c =
     let n : printable c.in-Some.b ≡ false = grind (arith, nat_tests) in
     (omega arith, λ h. h, end_byte _ _ _ c.in-Some.ensures.1 n)

@@ -2,8 +2,8 @@ use Rattle.std.proofs.Common.{[], ◌∷◌, ◌++◌, refl, arith, length-appen
 use Rattle.notation.proofs.Quoting.{reading_starts, reading_more, reading_fails, text_none}
 use Rattle.notation.proofs.texts.text_at.Goals as goal
 
-pub overflow-add-count : goal.overflow-add-count
-overflow-add-count c =
+pub overflow_add-count : goal.overflow_add-count
+overflow_add-count c =
     let i = c.loop-end.invariant in
     search (rules, i.1.low, i.1.high, i.2)
 

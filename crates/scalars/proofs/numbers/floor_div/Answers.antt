@@ -14,8 +14,8 @@ returns-in_err-quotient c =
     let p = quotient_none a b (no_quotient a b f g (simp to_z-of_z at c.in_err-quotient.ensures)) in
     rw c.from_residual.ensures (record { law = p.0; unique = one_way a b; bounds = p.1 })
 
-pub overflow-sub-result : goal.overflow-sub-result
-overflow-sub-result c =
+pub overflow_sub-result : goal.overflow_sub-result
+overflow_sub-result c =
     let a = c.args.a in
     let b = c.args.b in
     let f = c.ranges.a in

@@ -30,14 +30,14 @@ type_at-returns-in-Text t c =
     let k = c.in-Ok.ensures in
     (omega (arith, k.0), builds_text c.args.s.now c.args.at c.in-Ok.middle (k.2 ∙ ap (λ h. shape_text h ++ drop c.in-Ok.middle c.args.s.now) c.in-Text.is))
 
-pub type_at-returns-in_ok-fields : goal.type_at-returns-in_ok-fields
-type_at-returns-in_ok-fields t c =
+pub type_at-returns-in_ok-fields-in-Compound : goal.type_at-returns-in_ok-fields-in-Compound
+type_at-returns-in_ok-fields-in-Compound t c =
     let k = c.in-Ok.ensures in
     let f = c.in_ok-fields.ensures in
     (omega (arith, k.0, f.0), builds_compound c.args.s.now c.args.at c.in-Ok.middle c.in-Compound.count _ _ (k.2 ∙ ap (λ h. shape_text h ++ drop c.in-Ok.middle c.args.s.now) c.in-Compound.is) f.1)
 
-pub type_at-returns-in_ok-new : goal.type_at-returns-in_ok-new
-type_at-returns-in_ok-new t c =
+pub type_at-returns-in_ok-new-in-List : goal.type_at-returns-in_ok-new-in-List
+type_at-returns-in_ok-new-in-List t c =
     let k = c.in-Ok.ensures in
     let i = c.in_ok-item.ensures in
     let e : lists (ty_of c.in_ok-new.field-0.value) ≡ lists (ty_of c.in_ok-item.item) = search rules in (
@@ -46,8 +46,8 @@ type_at-returns-in_ok-new t c =
           (builds_list c.args.s.now c.args.at c.in-Ok.middle _ _ (k.2 ∙ ap (λ h. shape_text h ++ drop c.in-Ok.middle c.args.s.now) c.in-List.is) i.1),
     )
 
-pub type_at-returns-in_ok-new-2 : goal.type_at-returns-in_ok-new-2
-type_at-returns-in_ok-new-2 t c =
+pub type_at-returns-in_ok-new-in-Table : goal.type_at-returns-in_ok-new-in-Table
+type_at-returns-in_ok-new-in-Table t c =
     let k = c.in-Ok.ensures in
     let i = c.in_ok-key.ensures in
     let j = c.in_ok-associate.ensures in

@@ -3,8 +3,8 @@ use Rattle.sequences.proofs.items.Items.next.Goals as goal
 use Rattle.sequences.specs.Sequences.{letter}
 use Rattle.std.proofs.lemmas.List.{drop_more, drop_all}
 
-pub returns-in_ok-item : goal.returns-in_ok-item
-returns-in_ok-item c =
+pub returns-in_ok-item-in-Characters : goal.returns-in_ok-item-in-Characters
+returns-in_ok-item-in-Characters c =
     let e = ap (map letter) (drop_more (vec_items (rc_value c.in-Characters.codes)) c.in-Characters.index c.index.result.now (search rules)) in
     search (rules, e)
 

@@ -5,19 +5,19 @@ use Rattle.sequences.specs.Sequences.{letter, associates, items_of}
 use Rattle.values.specs.Means.{val, vals, pairs}
 use Rattle.values.specs.Rows.{listed}
 
-pub returns-in_ok-clone : goal.returns-in_ok-clone
-returns-in_ok-clone c =
-    let e : Some (map letter (vec_items (rc_value c.in_ok-clone.field-0))) ≡ items_of (val c.args.value.now) = search rules in
+pub returns-in_ok-clone-in-Text : goal.returns-in_ok-clone-in-Text
+returns-in_ok-clone-in-Text c =
+    let e : Some (map letter (vec_items (rc_value c.in_ok-clone-in-Text.field-0))) ≡ items_of (val c.args.value.now) = search rules in
     record { value = e; law = typed _ _ e }
 
-pub returns-in_ok-share : goal.returns-in_ok-share
-returns-in_ok-share c =
-    let e : Some (listed (vals c.in_ok-share.field-0)) ≡ items_of (val c.args.value.now) = search rules in
+pub returns-in_ok-share-in-List : goal.returns-in_ok-share-in-List
+returns-in_ok-share-in-List c =
+    let e : Some (listed (vals c.in_ok-share-in-List.field-0)) ≡ items_of (val c.args.value.now) = search rules in
     record { value = e; law = typed _ _ e }
 
-pub returns-in_ok-share-2 : goal.returns-in_ok-share-2
-returns-in_ok-share-2 c =
-    let e : Some (associates (pairs c.in_ok-share-2.field-0)) ≡ items_of (val c.args.value.now) = search rules in
+pub returns-in_ok-share-in-Table : goal.returns-in_ok-share-in-Table
+returns-in_ok-share-in-Table c =
+    let e : Some (associates (pairs c.in_ok-share-in-Table.field-0)) ≡ items_of (val c.args.value.now) = search rules in
     record { value = e; law = typed _ _ e }
 
 pub returns-in-Number : goal.returns-in-Number
