@@ -5,7 +5,7 @@ use Rattle.values.specs.declared.value.Row.{Entry}
 use Rattle.values.specs.Means.{vals, pairs}
 use Rattle.values.specs.Rows.{keys}
 
-pub returns-in_ok-new : goal.returns-in_ok-new
-returns-in_ok-new t c =
-    let e : vals (Entry c.in_ok-new.field-0) ≡ keys (pairs c.args.entries.now) = search rules in
+pub returns-in_ok-new-in-Pair : goal.returns-in_ok-new-in-Pair
+returns-in_ok-new-in-Pair t c =
+    let e : vals (Entry c.in_ok-new-in-Pair.field-0) ≡ keys (pairs c.args.entries.now) = search rules in
     record { value = e; law = key_list _ _ e }

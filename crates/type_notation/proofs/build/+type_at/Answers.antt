@@ -33,26 +33,26 @@ type_at-returns-in-Text t c =
 pub type_at-returns-in_ok-fields-in-Compound : goal.type_at-returns-in_ok-fields-in-Compound
 type_at-returns-in_ok-fields-in-Compound t c =
     let k = c.in-Ok.ensures in
-    let f = c.in_ok-fields.ensures in
+    let f = c.in_ok-fields-in-Compound.ensures in
     (omega (arith, k.0, f.0), builds_compound c.args.s.now c.args.at c.in-Ok.middle c.in-Compound.count _ _ (k.2 ∙ ap (λ h. shape_text h ++ drop c.in-Ok.middle c.args.s.now) c.in-Compound.is) f.1)
 
 pub type_at-returns-in_ok-new-in-List : goal.type_at-returns-in_ok-new-in-List
 type_at-returns-in_ok-new-in-List t c =
     let k = c.in-Ok.ensures in
-    let i = c.in_ok-item.ensures in
-    let e : lists (ty_of c.in_ok-new.field-0.value) ≡ lists (ty_of c.in_ok-item.item) = search rules in (
+    let i = c.in_ok-item-in-List.ensures in
+    let e : lists (ty_of c.in_ok-new-in-List.field-0.value) ≡ lists (ty_of c.in_ok-item-in-List.item) = search rules in (
       omega (arith, k.0, i.0),
-      subst (λ (x : Ty). Builds c.args.s.now c.args.at x c.in_ok-item.end) (sym e)
+      subst (λ (x : Ty). Builds c.args.s.now c.args.at x c.in_ok-item-in-List.end) (sym e)
           (builds_list c.args.s.now c.args.at c.in-Ok.middle _ _ (k.2 ∙ ap (λ h. shape_text h ++ drop c.in-Ok.middle c.args.s.now) c.in-List.is) i.1),
     )
 
 pub type_at-returns-in_ok-new-in-Table : goal.type_at-returns-in_ok-new-in-Table
 type_at-returns-in_ok-new-in-Table t c =
     let k = c.in-Ok.ensures in
-    let i = c.in_ok-key.ensures in
-    let j = c.in_ok-associate.ensures in
-    let e : tables (ty_of c.in_ok-new-2.field-0.value.key) (ty_of c.in_ok-new-2.field-0.value.associate) ≡ tables (ty_of c.in_ok-key.key) (ty_of c.in_ok-associate.associate) = search rules in (
+    let i = c.in_ok-key-in-Table.ensures in
+    let j = c.in_ok-associate-in-Table.ensures in
+    let e : tables (ty_of c.in_ok-new-in-Table.field-0.value.key) (ty_of c.in_ok-new-in-Table.field-0.value.associate) ≡ tables (ty_of c.in_ok-key-in-Table.key) (ty_of c.in_ok-associate-in-Table.associate) = search rules in (
       omega (arith, k.0, i.0, j.0),
-      subst (λ (x : Ty). Builds c.args.s.now c.args.at x c.in_ok-associate.end) (sym e)
-          (builds_table c.args.s.now c.args.at c.in-Ok.middle _ _ c.in_ok-key.next _ (k.2 ∙ ap (λ h. shape_text h ++ drop c.in-Ok.middle c.args.s.now) c.in-Table.is) i.1 j.1),
+      subst (λ (x : Ty). Builds c.args.s.now c.args.at x c.in_ok-associate-in-Table.end) (sym e)
+          (builds_table c.args.s.now c.args.at c.in-Ok.middle _ _ c.in_ok-key-in-Table.next _ (k.2 ∙ ap (λ h. shape_text h ++ drop c.in-Ok.middle c.args.s.now) c.in-Table.is) i.1 j.1),
     )
