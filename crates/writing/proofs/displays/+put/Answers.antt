@@ -1,3 +1,4 @@
+use Rattle.values.specs.declared.value.Entries.TheFolds.{the_lemmas}
 use Rattle.std.proofs.Common.{◌≡◌, true, false, [], ◌∷◌, ◌++◌, length, vec_items, rc_value, sym, ap, ◌∙◌, arith, length-append, rules}
 use Rattle.notation.specs.Texts.{inner}
 use Rattle.values.specs.Means.{val, vals, pairs}
@@ -9,7 +10,7 @@ use Rattle.writing.specs.Displays.{parted, written, shown_items, shown_entries}
 pub put_entries-put_value-key_end-requires : goal.put_entries-put_value-key_end-requires
 put_entries-put_value-key_end-requires t c =
     let l = ap (λ e. length (shown_entries (pairs e) c.args.first [])) c.in-Pair.is ∙ entries_long (val c.in-Pair.pair.value.key) (val c.in-Pair.pair.value.associate) (pairs c.in-Pair.pair.value.rest) c.args.first in
-    search (rules, l)
+    (search (rules, the_lemmas), search (rules, l))
 
 pub put_entries-put_bytes-associate-requires : goal.put_entries-put_bytes-associate-requires
 put_entries-put_bytes-associate-requires t c =
@@ -19,12 +20,12 @@ put_entries-put_bytes-associate-requires t c =
 pub put_entries-put_value-end-requires : goal.put_entries-put_value-end-requires
 put_entries-put_value-end-requires t c =
     let l = ap (λ e. length (shown_entries (pairs e) c.args.first [])) c.in-Pair.is ∙ entries_long (val c.in-Pair.pair.value.key) (val c.in-Pair.pair.value.associate) (pairs c.in-Pair.pair.value.rest) c.args.first in
-    search (rules, l)
+    (search (rules, the_lemmas), search (rules, l))
 
 pub put_entries-put_entries-requires : goal.put_entries-put_entries-requires
 put_entries-put_entries-requires t c =
     let l = ap (λ e. length (shown_entries (pairs e) c.args.first [])) c.in-Pair.is ∙ entries_long (val c.in-Pair.pair.value.key) (val c.in-Pair.pair.value.associate) (pairs c.in-Pair.pair.value.rest) c.args.first in
-    search (rules, l)
+    (search (rules, the_lemmas), search (rules, l))
 
 pub put_entries-returns-in-Pair : goal.put_entries-returns-in-Pair
 put_entries-returns-in-Pair t c =
@@ -46,12 +47,12 @@ put_entries-returns-in-Pair t c =
 pub put_items-put_value-end-requires : goal.put_items-put_value-end-requires
 put_items-put_value-end-requires t c =
     let l = ap (λ e. length (shown_items (vals e) c.args.first c.args.sep c.args.close [])) c.in-Entry.is ∙ items_long (val c.in-Entry.link.value.head) (vals c.in-Entry.link.value.rest) c.args.first c.args.sep c.args.close in
-    search (rules, l)
+    (search (rules, the_lemmas), search (rules, l))
 
 pub put_items-put_items-requires : goal.put_items-put_items-requires
 put_items-put_items-requires t c =
     let l = ap (λ e. length (shown_items (vals e) c.args.first c.args.sep c.args.close [])) c.in-Entry.is ∙ items_long (val c.in-Entry.link.value.head) (vals c.in-Entry.link.value.rest) c.args.first c.args.sep c.args.close in
-    search (rules, l)
+    (search (rules, the_lemmas), search (rules, l))
 
 pub put_items-returns-in-Entry : goal.put_items-returns-in-Entry
 put_items-returns-in-Entry t c =
