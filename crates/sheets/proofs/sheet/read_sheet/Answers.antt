@@ -1,6 +1,6 @@
 use Rattle.std.proofs.Common.{◌≡◌, map, length, Ok, Err, vec_items, subst, rules}
 use Rattle.sheets.proofs.sheet.read_sheet.Goals as goal
-use Rattle.sheets.proofs.sheet.read_sheet.Goals.{in-Some+then-is_empty, in-default}
+use Rattle.sheets.proofs.sheet.read_sheet.Goals.{in-Some+then-is_empty, in_default}
 use Rattle.sheets.proofs.Turns.{left_less, onward_empty, onward_fails, onward_more, onward_ends}
 use Rattle.sheets.specs.Lines.{front}
 use Rattle.sheets.specs.Sheets.{Line}
@@ -34,7 +34,7 @@ returns c =
     let ts = map target_of (vec_items c.loop-left.targets) in (
       elim c.match-left.branch [
         | in-Some+then-is_empty w ↦ (let z : length (front 10 w.in-Some.s.now) ≡ 0 = search rules in onward_empty c.args.input.now ts w.in-Some.s c.loop-left.left w.cut-line.result.rest w.in-Some.is w.cut-line.ensures.rest c.loop-left.invariant z)
-        | in-default w ↦ onward_ends c.args.input.now ts c.loop-left.left w.in-default.is c.loop-left.invariant
+        | in_default w ↦ onward_ends c.args.input.now ts c.loop-left.left w.in_default.is c.loop-left.invariant
       ],
       c.loop-left.invariant.whole,
     )
