@@ -11,12 +11,12 @@ use Rattle.notation.specs.Quotes.{NoQuote}
 use Rattle.reading.specs.declared.word.Word.{Word}
 use Rattle.reading.specs.Reading.{Stuck}
 use Rattle.tables.specs.Entries.{Entry, entry}
-use Rattle.types.specs.Model.{Ty, Tys, number, texts, comps, lists, tables, end}
+use Rattle.types.specs.Model.{Ty, Tys, number, texts, comps, lists, tables}
 use Rattle.values.specs.declared.value.Row.{Row}
 use Rattle.values.specs.declared.value.Value.{Value}
 use Rattle.values.specs.Means.{val, vals}
 use Rattle.values.specs.Model.{Val, Vals, none, more}
-use Rattle.writing.specs.Displays.{shown, shown_items, written}
+use Rattle.writing.specs.Displays.{shown, shown_items}
 
 -- what may follow a value of a type
 abbrev pub After : Ty → List ℕ → Type 0

@@ -1,5 +1,5 @@
 -- Types built from their text.
-use Rattle.std.proofs.Common.{◌≡◌, ℕ, ◌+◌, ◌-◌, true, ◌&&◌, List, [], ◌++◌, drop, sym, refl, ap, ◌∙◌, append_assoc, append-nil, arith}
+use Rattle.std.proofs.Common.{◌≡◌, ℕ, ◌-◌, true, ◌&&◌, List, [], ◌++◌, drop, sym, refl, ap, ◌∙◌, append_assoc, append-nil, arith}
 use Rattle.reading.proofs.Whole.{same_head_self}
 use Rattle.std.proofs.lemmas.Bool.{and_parts, and_from}
 use Rattle.type_notation.proofs.Prefixes.{shape_of, parts_of, shape_parts, shape_counts, shape_sound, shape_same}

@@ -1,4 +1,4 @@
-use Rattle.std.proofs.Common.{◌-◌, [], length, ap, ◌∙◌, rules}
+use Rattle.std.proofs.Common.{[], length, ap, ◌∙◌, rules}
 use Rattle.values.specs.Means.{val, vals, pairs}
 use Rattle.writing.proofs.lengths.+lengths.Goals as goal
 use Rattle.writing.proofs.Pieces.{parted_long, text_long, items_long, entries_long}
