@@ -3,7 +3,7 @@ use Rattle.std.proofs.Common.{◌≡◌, ℕ, Bool, true, false, List, [], ◌�
 use Rattle.displays.proofs.Stucks.{same_head_front, same_head_first, off_stop, RightBoth, shown_both, stuck_first, stuck_second}
 use Rattle.reading.specs.Bytes.{Off}
 use Rattle.reading.specs.Reading.{SameHead, Stuck}
-use Rattle.std.specs.List.{AllByRecursion as All}
+use Rattle.std.specs.List.{AllByRecursion}
 use Rattle.writing.specs.Displays.{parted}
 
 -- what a kind of word has that stands in rows: it is read in one way, whatever follows it, and is no closing brace
@@ -61,7 +61,7 @@ module _ {V : Type 0} {Right : V → Type 0} {shown : V → List ℕ → List �
   not_closed true v X Y r e = E.opens v X Y r e
   not_closed false v X Y r e = let z : ◌≡◌ {A = ℕ} 59 125 = cc in omega arith
 
-  pub row_same : (first : Bool) (vs ws : List V) (r q : List ℕ) → All Right vs → All Right ws → row shown first vs r ≡ row shown first ws q → (vs ≡ ws) × (r ≡ q)
+  pub row_same : (first : Bool) (vs ws : List V) (r q : List ℕ) → AllByRecursion Right vs → AllByRecursion Right ws → row shown first vs r ≡ row shown first ws q → (vs ≡ ws) × (r ≡ q)
   row_same first [] [] r q a b e = (refl, cc)
   row_same first [] (w ∷ ws) r q a b e = absurd (not_closed first w (row shown false ws q) r b.0 (sym e))
   row_same first (v ∷ vs) [] r q a b e = absurd (not_closed first v (row shown false vs r) q a.0 e)
@@ -74,7 +74,7 @@ module _ {V : Type 0} {Right : V → Type 0} {shown : V → List ℕ → List �
       (cc, m.1)
 
   -- the first word of a row, and the others, if there is a word
-  stuck_cons : (first : Bool) (X back : List ℕ) → (first ≡ true → (rest : List ℕ) → X ≡ 125 ∷ rest → ⊥) → Stuck (RightBoth Right (All Right)) (shown_both shown (row shown false)) Any X back → Stuck (All Right) (row shown first) Any (parted first 59 X) back
+  stuck_cons : (first : Bool) (X back : List ℕ) → (first ≡ true → (rest : List ℕ) → X ≡ 125 ∷ rest → ⊥) → Stuck (RightBoth Right (AllByRecursion Right)) (shown_both shown (row shown false)) Any X back → Stuck (AllByRecursion Right) (row shown first) Any (parted first 59 X) back
   stuck_cons first X back closed h = record {
     front = parted first 59 h.front;
     splits = ap (parted first 59) h.splits ∙ parted_joins first 59 h.front back;
@@ -85,21 +85,21 @@ module _ {V : Type 0} {Right : V → Type 0} {shown : V → List ℕ → List �
     stop = λ R s ws rest k a e. stop first closed R s ws rest k (parted_joins first 59 h.front R ∙ e);
   }
     where
-      stop : (first : Bool) → (first ≡ true → (rest : List ℕ) → X ≡ 125 ∷ rest → ⊥) → (R : List ℕ) → SameHead back R → (ws : List V) (rest : List ℕ) → All Right ws → parted first 59 (h.front ++ R) ≡ row shown first ws rest → ⊥
+      stop : (first : Bool) → (first ≡ true → (rest : List ℕ) → X ≡ 125 ∷ rest → ⊥) → (R : List ℕ) → SameHead back R → (ws : List V) (rest : List ℕ) → AllByRecursion Right ws → parted first 59 (h.front ++ R) ≡ row shown first ws rest → ⊥
       stop true closed R s [] rest k e =
           let p = same_head_first X (h.front ++ R) 125 rest (subst (λ Z. SameHead Z (h.front ++ R)) (sym h.splits) (same_head_front h.front back R s)) e in
           closed refl p.0 p.1
       stop false closed R s [] rest k e = let z : ◌≡◌ {A = ℕ} 59 125 = cc in omega arith
       stop first closed R s (w ∷ ws) rest k e = h.stop R s (w, ws) rest k tt (parted_same first 59 (h.front ++ R) (shown w (row shown false ws rest)) e)
 
-  between : (ws : List V) (rest : List ℕ) → All Right ws → Any rest → After (row shown false ws rest)
+  between : (ws : List V) (rest : List ℕ) → AllByRecursion Right ws → Any rest → After (row shown false ws rest)
   between ws rest k a = after_row ws rest
 
   -- no word stands where one is to stand
-  pub stuck_element : (first : Bool) (X back : List ℕ) → (first ≡ true → (rest : List ℕ) → X ≡ 125 ∷ rest → ⊥) → Stuck Right shown After X back → Stuck (All Right) (row shown first) Any (parted first 59 X) back
+  pub stuck_element : (first : Bool) (X back : List ℕ) → (first ≡ true → (rest : List ℕ) → X ≡ 125 ∷ rest → ⊥) → Stuck Right shown After X back → Stuck (AllByRecursion Right) (row shown first) Any (parted first 59 X) back
   stuck_element first X back closed h = stuck_cons first X back closed (stuck_first (row shown false) E.joins between [] tt X back h)
 
-  stuck_after : (first : Bool) (v : V) → Right v → (Y back : List ℕ) → After Y → Stuck (All Right) (row shown false) Any Y back → Stuck (All Right) (row shown first) Any (parted first 59 (shown v Y)) back
+  stuck_after : (first : Bool) (v : V) → Right v → (Y back : List ℕ) → After Y → Stuck (AllByRecursion Right) (row shown false) Any Y back → Stuck (AllByRecursion Right) (row shown first) Any (parted first 59 (shown v Y)) back
   stuck_after first v r Y back a h = stuck_cons first (shown v Y) back (λ _ rest e. E.opens v Y rest r e) (stuck_second (row shown false) E.joins between E.same E.after_head v r (shown v Y) Y back a refl h)
 
   -- what follows some words may follow the last of them
@@ -108,13 +108,13 @@ module _ {V : Type 0} {Right : V → Type 0} {shown : V → List ℕ → List �
   Follows (v ∷ vs) Z = After Z
 
   -- after the words of a run the row does not go on
-  pub stuck_run : (first : Bool) (vs : List V) → All Right vs → (Z back : List ℕ) → Follows vs Z → Stuck (All Right) (row shown (still shown first vs)) Any Z back → Stuck (All Right) (row shown first) Any (run shown vs first Z) back
+  pub stuck_run : (first : Bool) (vs : List V) → AllByRecursion Right vs → (Z back : List ℕ) → Follows vs Z → Stuck (AllByRecursion Right) (row shown (still shown first vs)) Any Z back → Stuck (AllByRecursion Right) (row shown first) Any (run shown vs first Z) back
   stuck_run first [] r Z back a h = h
   stuck_run first (v ∷ []) r Z back a h = stuck_after first v r.0 Z back a h
   stuck_run first (v ∷ (w ∷ vs)) r Z back a h = stuck_after first v r.0 (run shown (w ∷ vs) false Z) back (E.after_sep _) (stuck_run false (w ∷ vs) r.1 Z back a h)
 
   -- neither the closing brace nor another word
-  pub stuck_follow : {s : List ℕ} {at end : ℕ} → Off s at (59 ∷ (32 ∷ [])) end → ((rest : List ℕ) → drop at s ≡ 125 ∷ rest → ⊥) → Stuck (All Right) (row shown false) Any (drop at s) (drop end s)
+  pub stuck_follow : {s : List ℕ} {at end : ℕ} → Off s at (59 ∷ (32 ∷ [])) end → ((rest : List ℕ) → drop at s ≡ 125 ∷ rest → ⊥) → Stuck (AllByRecursion Right) (row shown false) Any (drop at s) (drop end s)
   stuck_follow {s} {at} {end} o n = record {
     front = o.lead;
     splits = o.shares;

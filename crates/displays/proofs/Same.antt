@@ -9,7 +9,7 @@ use Rattle.notation.proofs.Numerals.{nat_head}
 use Rattle.notation.proofs.Quoting.{text_readable}
 use Rattle.notation.specs.Digits.{Digit}
 use Rattle.reading.specs.Reading.{SameHead}
-use Rattle.std.specs.List.{AllByRecursion as All}
+use Rattle.std.specs.List.{AllByRecursion}
 use Rattle.tables.proofs.Places.{entries_same}
 use Rattle.tables.specs.Entries.{Entry, entry, entries_of}
 use Rattle.types.specs.Model.{Ty, Tys, number, texts, comps, lists, tables, end, also}
@@ -80,11 +80,11 @@ mutual
 
 -- ---- rows as lists
 
-pub alls_listed : {t : Ty} {r : Vals} → Alls t r → All (Typed t) (listed r)
+pub alls_listed : {t : Ty} {r : Vals} → Alls t r → AllByRecursion (Typed t) (listed r)
 alls_listed alls_none = tt
 alls_listed (alls_more a c) = (a, alls_listed c)
 
-pub listed_alls : (t : Ty) (vs : List Val) → All (Typed t) vs → Alls t (row_of vs)
+pub listed_alls : (t : Ty) (vs : List Val) → AllByRecursion (Typed t) vs → Alls t (row_of vs)
 listed_alls t [] h = alls_none
 listed_alls t (v ∷ vs) h = alls_more h.0 (listed_alls t vs h.1)
 
@@ -92,11 +92,11 @@ abbrev pub pairs_of : List Entry → Pairs
 pairs_of [] = empty
 pairs_of (entry k a ∷ es) = pair k a (pairs_of es)
 
-pub both_listed : {t u : Ty} {p : Pairs} → Both t u p → All (TypedEntry t u) (entries_of p)
+pub both_listed : {t u : Ty} {p : Pairs} → Both t u p → AllByRecursion (TypedEntry t u) (entries_of p)
 both_listed both_empty = tt
 both_listed (both_pair a b c) = ((a, b), both_listed c)
 
-pub listed_both : (t u : Ty) (es : List Entry) → All (TypedEntry t u) es → Both t u (pairs_of es)
+pub listed_both : (t u : Ty) (es : List Entry) → AllByRecursion (TypedEntry t u) es → Both t u (pairs_of es)
 listed_both t u [] h = both_empty
 listed_both t u (entry k a ∷ es) h = both_pair h.0.0 h.0.1 (listed_both t u es h.1)
 

@@ -2,7 +2,7 @@
 use Rattle.std.proofs.Common.{◌≡◌, ℕ, zero, suc, ◌+◌, ◌*◌, ◌/◌, ◌%◌, ◌<◌, ◌≤◌, List, [], ◌∷◌, ◌++◌, map, get_or, ℤ, pos, negsuc, sym, refl, ap, ◌∙◌, arith}
 use Rattle.std.specs.Int.Digits.{digits_of, AllBelowBase}
 use Rattle.std.proofs.lemmas.Int.Digits.{digits_of_step, all_below_base_digits_of, first_digits_of, same_from_digits_of}
-use Rattle.std.specs.List.{AllByRecursion as All}
+use Rattle.std.specs.List.{AllByRecursion}
 use Rattle.std.proofs.lemmas.List.{map-append}
 use Rattle.notation.specs.Digits.{Digit, NoDigit}
 use Rattle.notation.specs.Numbers.{nat, int}
@@ -18,16 +18,16 @@ digit_more n d h k =
     let q : (n * 10 + d) % 10 ≡ d = omega arith in
     ap chars (digits_of_step 10 (n * 10 + d) (omega arith) (omega arith)) ∙ rw (p, q) (map-append (λ d. 48 + d) (digits_of 10 n) (d ∷ []))
 
-chars_digits : (ds : List ℕ) → AllBelowBase 10 ds → All Digit (chars ds)
+chars_digits : (ds : List ℕ) → AllBelowBase 10 ds → AllByRecursion Digit (chars ds)
 chars_digits [] h = tt
 chars_digits (d ∷ ds) h = ((omega (arith, h.0), omega (arith, h.0)), chars_digits ds h.1)
 
-pub nat_digits : (n : ℕ) → All Digit (nat n)
+pub nat_digits : (n : ℕ) → AllByRecursion Digit (nat n)
 nat_digits zero = ((omega arith, omega arith), tt)
 nat_digits (suc n) = chars_digits (digits_of 10 (suc n)) (all_below_base_digits_of 10 (suc n) (omega arith))
 
 -- two runs of digits, each followed by no digit
-pub digits_same : (xs ys r q : List ℕ) → All Digit xs → All Digit ys → NoDigit r → NoDigit q → xs ++ r ≡ ys ++ q → (xs ≡ ys) × (r ≡ q)
+pub digits_same : (xs ys r q : List ℕ) → AllByRecursion Digit xs → AllByRecursion Digit ys → NoDigit r → NoDigit q → xs ++ r ≡ ys ++ q → (xs ≡ ys) × (r ≡ q)
 digits_same [] [] r q h k m n e = (refl, e)
 digits_same [] (y ∷ ys) [] q h k m n e = let z : ◌≡◌ {A = ℕ} 0 1 = cc in absurd (omega arith)
 digits_same [] (y ∷ ys) (c ∷ r) q h k m n e = let z : y ≡ c = cc in absurd (m (omega arith, omega arith))

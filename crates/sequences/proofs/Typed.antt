@@ -4,7 +4,7 @@ use Rattle.sequences.specs.Laws.{item_type, AllOf, ItemsTyped, Counted}
 use Rattle.sequences.specs.Sequences.{letter, associates, items_of, counted}
 use Rattle.std.proofs.lemmas.List.{length-map}
 use Rattle.std.proofs.lemmas.Bool.{and_parts, and_from, le-leb, leb-true}
-use Rattle.std.specs.List.{AllByRecursion as All}
+use Rattle.std.specs.List.{AllByRecursion}
 use Rattle.types.proofs.ByKind.{number_kind, text_kind, comp_kind, list_kind, table_kind}
 use Rattle.types.specs.Model.{Ty, number, texts}
 use Rattle.types.specs.Types.{printable, printables, formed, all_formed, pairs_formed, Of}
@@ -20,15 +20,15 @@ of_parts t v h = let i = and_parts (leb (size v) 256) (formed v t) h in (leb-tru
 of_from : (t : Ty) (v : Val) → size v ≤ 256 → formed v t ≡ true → Of t v
 of_from t v l f = and_from (leb (size v) 256) (formed v t) (le-leb (size v) 256 l) f
 
-letters_typed : (s : List ℕ) → printables s ≡ true → All (Of texts) (map letter s)
+letters_typed : (s : List ℕ) → printables s ≡ true → AllByRecursion (Of texts) (map letter s)
 letters_typed [] f = tt
 letters_typed (c ∷ s) f = let i = and_parts (printable c) (printables s) f in (and_from (printable c) true i.0 refl, letters_typed s i.1)
 
-entries_typed : (t : Ty) (r : Vals) → sizes r ≤ 256 → all_formed r t ≡ true → All (Of t) (listed r)
+entries_typed : (t : Ty) (r : Vals) → sizes r ≤ 256 → all_formed r t ≡ true → AllByRecursion (Of t) (listed r)
 entries_typed t none l f = tt
 entries_typed t (more v r) l f = let i = and_parts (formed v t) (all_formed r t) f in (of_from t v (omega arith) i.0, entries_typed t r (omega arith) i.1)
 
-associates_typed : (t u : Ty) (p : Pairs) → pair_sizes p ≤ 256 → pairs_formed p t u ≡ true → All (Of u) (associates p)
+associates_typed : (t u : Ty) (p : Pairs) → pair_sizes p ≤ 256 → pairs_formed p t u ≡ true → AllByRecursion (Of u) (associates p)
 associates_typed t u empty l f = tt
 associates_typed t u (pair k a p) l f =
     let i = and_parts (formed k t) (formed a u && pairs_formed p t u) f in

@@ -1,6 +1,6 @@
 -- The items of a value of a type.
 use Rattle.std.specs.Prelude.{ℕ, ◌≤◌, List, pos, IfSome, Some, None, Option}
-use Rattle.std.specs.List.{AllByRecursion as All}
+use Rattle.std.specs.List.{AllByRecursion}
 use Rattle.types.specs.Model.{Ty, number, texts, comps, lists, tables}
 use Rattle.types.specs.Types.{Of}
 use Rattle.values.specs.Model.{Val, num}
@@ -18,7 +18,7 @@ abbrev pub AllOf : Option Ty → Option (List Val) → Type 0
 AllOf None None = Unit {0}
 AllOf None (Some vs) = ⊥
 AllOf (Some t) None = ⊥
-AllOf (Some t) (Some vs) = All (Of t) vs
+AllOf (Some t) (Some vs) = AllByRecursion (Of t) vs
 
 -- a value of a type has items exactly where the type has a type of items, and each is of that type
 abbrev pub ItemsTyped : Val → Option (List Val) → Type 0

@@ -7,7 +7,7 @@ use Rattle.sheets.specs.Lines.{LineFields, three, split}
 use Rattle.sheets.specs.Sheets.{Declares, Gives, DoneIf, Line}
 use Rattle.sheets.specs.Targets.{Declared, target_of, by_code, names, among, placed, Sound, leads, ascending, Whole}
 use Rattle.std.proofs.lemmas.Bool.{and_parts, and_from, false≢true}
-use Rattle.std.specs.List.{insert, AllByRecursion as All}
+use Rattle.std.specs.List.{insert, AllByRecursion}
 use Rattle.std.specs.Ordering.{is_eq, is_lt, ordering_reverse}
 use Rattle.types.specs.Model.{Ty}
 use Rattle.types.specs.Types.{Of}
@@ -38,11 +38,11 @@ module _ (t : Declared) where
       go true h = omega arith
       go false h = omega arith
 
-  placed_sound : Sound t → (ts : List Declared) → All Sound ts → All Sound (placed t ts)
+  placed_sound : Sound t → (ts : List Declared) → AllByRecursion Sound ts → AllByRecursion Sound (placed t ts)
   placed_sound s [] h = (s, tt)
   placed_sound s (u ∷ us) h = go (is_lt (by_code u.name t.name)) (placed_sound s us h.1)
     where
-      go : (b : Bool) → All Sound (placed t us) → All Sound (cond b (u ∷ placed t us) (t ∷ (u ∷ us)))
+      go : (b : Bool) → AllByRecursion Sound (placed t us) → AllByRecursion Sound (cond b (u ∷ placed t us) (t ∷ (u ∷ us)))
       go true i = (h.0, i)
       go false i = (s, h)
 

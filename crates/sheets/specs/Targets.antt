@@ -7,7 +7,7 @@ use Rattle.sheets.specs.declared.target.Target.{Target}
 use Rattle.std.specs.Cmp.Lexicographic.{slice_cmp}
 use Rattle.std.specs.Option.{option_map}
 use Rattle.std.specs.Ordering.{is_lt, nat_cmp}
-use Rattle.std.specs.List.{AllByRecursion as All}
+use Rattle.std.specs.List.{AllByRecursion}
 use Rattle.type_notation.specs.TypeTexts.{TypeForm, type_fits}
 use Rattle.types.specs.Model.{Ty}
 use Rattle.types.specs.Types.{Of}
@@ -68,7 +68,7 @@ ascending (t ∷ ts) = leads t.name ts && ascending ts
 pub record Whole (ts : List Declared) : Type 0 where
   pub few : length ts ≤ 16
   pub ordered : ascending ts ≡ true
-  pub sound : All Sound ts
+  pub sound : AllByRecursion Sound ts
 
 -- ---- the text of a sheet
 

@@ -1,7 +1,7 @@
 ghost use Rattle.std.specs.Prelude.{◌≡◌, ◌++◌, map, IfSome, IfOk, OnOk};
 ghost use Rattle.sheets.specs.Targets.{target_of, Sound, content_text, target_text, sheet_text};
 ghost use Rattle.std.specs.Option.{option_map};
-ghost use Rattle.std.specs.List.{AllByRecursion as All};
+ghost use Rattle.std.specs.List.{AllByRecursion};
 ghost use Rattle.types.specs.Model.{Ty};
 ghost use Rattle.types.specs.Types.{Of};
 ghost use Rattle.values.specs.Means.{val};
@@ -13,7 +13,7 @@ use writing::display;
 
 // The text of a sheet: a line for each target.
 pub fn write_sheet(heap: Global, targets: &[Target]) -> Result<Vec<u8>, AllocError>
-    requires { All Sound (map target_of targets.now) }
+    requires { AllByRecursion Sound (map target_of targets.now) }
     ensures { IfOk result (λ v. v.items ≡ sheet_text (map target_of targets.now)) }
 {
     let mut out = Vec::new(heap);
