@@ -15,7 +15,7 @@ use Rattle.types.specs.Model.{Ty, Tys, number, texts, comps, lists, tables}
 use Rattle.values.specs.declared.value.Row.{Row}
 use Rattle.values.specs.declared.value.Value.{Value}
 use Rattle.values.specs.Means.{val, vals}
-use Rattle.values.specs.Model.{Val, Vals, none, more}
+use Rattle.value_model.specs.Model.{Val, Vals, none, more}
 use Rattle.writing.specs.Displays.{shown, shown_items}
 
 -- what may follow a value of a type

@@ -9,7 +9,7 @@ use Rattle.types.specs.Model.{Ty}
 use Rattle.types.specs.Types.{Of}
 use Rattle.values.specs.declared.value.Value.{Value}
 use Rattle.values.specs.Means.{val}
-use Rattle.values.specs.Model.{Val}
+use Rattle.value_model.specs.Model.{Val}
 
 -- s is the display of v alone, and v keeps the limits
 pub record Kept (t : Ty) (s : List ℕ) (v : Val) : Type 0 where

@@ -2,7 +2,7 @@ ghost use Rattle.std.specs.Prelude.{◌≡◌};
 ghost use Rattle.displays.specs.Reads.{Meant, Admitted, ReadAs};
 ghost use Rattle.types.specs.Model.{ty_of};
 ghost use Rattle.types.specs.Types.{Of};
-ghost use Rattle.values.specs.Model.{Val};
+ghost use Rattle.value_model.specs.Model.{Val};
 ghost use Rattle.writing.specs.Displays.{written};
 
 use crate::fault::DisplayFault;

@@ -8,8 +8,8 @@ use Rattle.std.proofs.lemmas.Bool.Decides.{nat_tests}
 use Rattle.std.specs.Ordering.{is_gt, int_cmp}
 use Rattle.types.specs.Model.{number, lists}
 use Rattle.types.specs.Types.{bounded, leads, ascending, all_formed, Of}
-use Rattle.values.specs.Model.{Vals, num, none, more, list}
-use Rattle.values.specs.Sizes.{sizes}
+use Rattle.value_model.specs.Model.{Vals, num, none, more, list}
+use Rattle.value_model.specs.Sizes.{sizes}
 
 -- the count of the numbers from a up to the one before b, where b is above a by more than m
 pub longer : (m : ℕ) (a b : ℤ) → (a +ℤ pos m) <ℤ b → (n : ℕ) × (b ≡ a +ℤ pos n) × (m < n)

@@ -3,8 +3,8 @@ use Rattle.std.specs.Prelude.{ℕ, ◌≤◌, List, [], ◌∷◌, Some, None, O
 use Rattle.std.specs.List.{slice_get}
 use Rattle.types.specs.Model.{Ty, Tys, comps, end, also}
 use Rattle.types.specs.Types.{Of}
-use Rattle.values.specs.Model.{Val, Vals, comp}
-use Rattle.values.specs.Sizes.{size}
+use Rattle.value_model.specs.Model.{Val, Vals, comp}
+use Rattle.value_model.specs.Sizes.{size}
 
 abbrev pub field_types : Tys → List Ty
 field_types end = []

@@ -4,7 +4,7 @@ use Rattle.lists.specs.declared.ranges.RangeFault.{RangeFault}
 use Rattle.lists.specs.declared.ranges.RangeFault.TheVariants.{Backward, TooLong, Memory}
 use Rattle.types.specs.Model.{number, lists}
 use Rattle.types.specs.Types.{bounded, Of}
-use Rattle.values.specs.Model.{Vals, num, list, none, more}
+use Rattle.value_model.specs.Model.{Vals, num, list, none, more}
 
 -- the n numbers from a on
 abbrev pub numbers : ℤ → ℕ → Vals

@@ -1,7 +1,7 @@
 ghost use Rattle.values.specs.Means.{val, vals};
-ghost use Rattle.values.specs.Model.{Val};
-ghost use Rattle.values.specs.Order.{cmp};
-ghost use Rattle.values.specs.Rows.{listed};
+ghost use Rattle.value_model.specs.Model.{Val};
+ghost use Rattle.value_model.specs.Order.{cmp};
+ghost use Rattle.value_model.specs.Rows.{listed};
 
 use search::Walk;
 use std::cmp::Ordering;

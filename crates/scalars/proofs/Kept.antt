@@ -4,8 +4,8 @@ use Rattle.scalars.specs.Texts.{KeepsBoth, KeepsPart}
 use Rattle.std.proofs.lemmas.Bool.{and_parts, and_from, le-leb, leb-true}
 use Rattle.types.specs.Model.{texts}
 use Rattle.types.specs.Types.{printable, printables, Of}
-use Rattle.values.specs.Model.{Val, text}
-use Rattle.values.specs.Sizes.{size}
+use Rattle.value_model.specs.Model.{Val, text}
+use Rattle.value_model.specs.Sizes.{size}
 
 of_text : (s : List ℕ) → size (text s) ≤ 256 → printables s ≡ true → Of texts (text s)
 of_text s l p = and_from (leb (size (text s)) 256) (printables s) (le-leb (size (text s)) 256 l) p

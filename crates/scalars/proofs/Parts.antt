@@ -4,7 +4,7 @@ use lib.Signed.{le_z}
 use Rattle.scalars.specs.Texts.{suffix, prefix}
 use Rattle.std.proofs.lemmas.Bool.{and_from, cond-true}
 use Rattle.std.specs.Option.{option_map}
-use Rattle.values.specs.Model.{Val, text}
+use Rattle.value_model.specs.Model.{Val, text}
 
 pub suffix_within : (s : List ℕ) (first : ℤ) (v : Val) → le_z (pos 1) first ≡ true → le_z first (pos (length s + 1)) ≡ true → v ≡ text (drop (nat_abs first - 1) s) → Some v ≡ option_map text (suffix s first)
 suffix_within s first v h k e =

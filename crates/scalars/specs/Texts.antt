@@ -2,8 +2,8 @@
 use Rattle.std.specs.Prelude.{ℕ, ◌+◌, ◌-◌, ◌≤◌, cond, ◌&&◌, List, length, take, drop, ℤ, pos, Some, None, Option, int_le, unsigned_abs}
 use Rattle.types.specs.Model.{texts}
 use Rattle.types.specs.Types.{Of}
-use Rattle.values.specs.Model.{Val, text}
-use Rattle.values.specs.Sizes.{size}
+use Rattle.value_model.specs.Model.{Val, text}
+use Rattle.value_model.specs.Sizes.{size}
 
 -- the characters from the first-th on, counted from 1; first is 1 to one more than the length, and else there is nothing
 abbrev pub suffix : List ℕ → ℤ → Option (List ℕ)

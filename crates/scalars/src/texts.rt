@@ -2,7 +2,7 @@ ghost use Rattle.std.specs.Prelude.{◌≡◌, ◌++◌, IfSome, IfOk};
 ghost use Rattle.scalars.specs.Texts.{suffix, prefix, KeepsBoth, KeepsPart};
 ghost use Rattle.std.specs.Option.{option_map};
 ghost use Rattle.values.specs.Means.{val};
-ghost use Rattle.values.specs.Model.{text};
+ghost use Rattle.value_model.specs.Model.{text};
 
 use std::alloc::{AllocError, Global};
 use std::rc::Rc;

@@ -8,9 +8,9 @@ use Rattle.std.specs.List.{AllByRecursion}
 use Rattle.types.proofs.ByKind.{number_kind, text_kind, comp_kind, list_kind, table_kind}
 use Rattle.types.specs.Model.{Ty, number, texts}
 use Rattle.types.specs.Types.{printable, printables, formed, all_formed, pairs_formed, Of}
-use Rattle.values.specs.Model.{Val, Vals, Pairs, num, text, comp, list, table, none, more, empty, pair}
-use Rattle.values.specs.Rows.{listed}
-use Rattle.values.specs.Sizes.{size, sizes, pair_sizes}
+use Rattle.value_model.specs.Model.{Val, Vals, Pairs, num, text, comp, list, table, none, more, empty, pair}
+use Rattle.value_model.specs.Rows.{listed}
+use Rattle.value_model.specs.Sizes.{size, sizes, pair_sizes}
 
 -- ---- each item is of its type
 

@@ -5,8 +5,8 @@ use Rattle.sequences.specs.declared.items.Items.{Items}
 use Rattle.sequences.specs.declared.items.Items.TheVariants.{Characters, Entries, Associates}
 use Rattle.sequences.specs.Sequences.{letter, associates}
 use Rattle.values.specs.Means.{vals, pairs}
-use Rattle.values.specs.Model.{Val}
-use Rattle.values.specs.Rows.{listed}
+use Rattle.value_model.specs.Model.{Val}
+use Rattle.value_model.specs.Rows.{listed}
 
 -- the items that are left
 abbrev pub left : Items → List Val

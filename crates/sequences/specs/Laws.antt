@@ -3,7 +3,7 @@ use Rattle.std.specs.Prelude.{ℕ, ◌≤◌, List, pos, IfSome, Some, None, Opt
 use Rattle.std.specs.List.{AllByRecursion}
 use Rattle.types.specs.Model.{Ty, number, texts, comps, lists, tables}
 use Rattle.types.specs.Types.{Of}
-use Rattle.values.specs.Model.{Val, num}
+use Rattle.value_model.specs.Model.{Val, num}
 
 -- the type of the items of a value of the type
 abbrev pub item_type : Ty → Option Ty

@@ -1,8 +1,8 @@
 -- The items of a value: of a text its characters, each as a text; of a list its entries; of a table its associates.
 use Rattle.std.specs.Prelude.{ℕ, ◌-◌, ◌^◌, min, List, [], ◌∷◌, map, length, Some, None, Option}
 use Rattle.std.specs.Option.{option_map}
-use Rattle.values.specs.Model.{Val, Pairs, num, text, comp, list, table, empty, pair}
-use Rattle.values.specs.Rows.{listed}
+use Rattle.value_model.specs.Model.{Val, Pairs, num, text, comp, list, table, empty, pair}
+use Rattle.value_model.specs.Rows.{listed}
 
 -- the text of one character
 abbrev pub letter : ℕ → Val

@@ -2,7 +2,7 @@ ghost use Rattle.std.specs.Prelude.{◌≡◌, ◌-◌, ◌^◌, min, length};
 ghost use Rattle.sequences.specs.Sequences.{counted, associates};
 ghost use Rattle.sequences.specs.Laws.{Counted};
 ghost use Rattle.values.specs.Means.{val, vals, pairs};
-ghost use Rattle.values.specs.Rows.{listed};
+ghost use Rattle.value_model.specs.Rows.{listed};
 
 use values::{Entries, Row, Value};
 

@@ -8,8 +8,8 @@ use Rattle.sheets.specs.Targets.{Declared, target_of, by_code, names, among, lea
 use Rattle.std.proofs.lemmas.List.{take_all}
 use Rattle.std.proofs.lemmas.Bool.{and_parts, and_from}
 use Rattle.std.specs.Ordering.{is_lt}
-use Rattle.values.proofs.Ordered.{cmp_order, cmp_same}
-use Rattle.values.specs.Model.{text}
+use Rattle.value_model.proofs.Ordered.{cmp_order, cmp_same}
+use Rattle.value_model.specs.Model.{text}
 
 -- names are ordered as texts are
 pub by_code_order : TotalOrder by_code

@@ -11,7 +11,7 @@ use Rattle.std.specs.List.{insert, AllByRecursion}
 use Rattle.std.specs.Ordering.{is_eq, is_lt, ordering_reverse}
 use Rattle.types.specs.Model.{Ty}
 use Rattle.types.specs.Types.{Of}
-use Rattle.values.specs.Model.{Val}
+use Rattle.value_model.specs.Model.{Val}
 
 -- ---- by the index of the place
 

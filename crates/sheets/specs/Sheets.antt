@@ -13,7 +13,7 @@ use Rattle.sheets.specs.Lines.{LineFields, three, split, sheet_lines}
 use Rattle.sheets.specs.Targets.{Declared, Named, TypeIs, among, placed, Whole, sheet_text}
 use Rattle.type_notation.specs.TypeTexts.{TypeForm, type_fits}
 use Rattle.types.specs.Model.{Ty}
-use Rattle.values.specs.Model.{Val}
+use Rattle.value_model.specs.Model.{Val}
 
 -- s is no name, or too long for one; s is no type, or passes a limit
 abbrev pub NoName : List ℕ → Fault → Type 0

@@ -12,7 +12,7 @@ use Rattle.type_notation.specs.TypeTexts.{TypeForm, type_fits}
 use Rattle.types.specs.Model.{Ty}
 use Rattle.types.specs.Types.{Of}
 use Rattle.values.specs.Means.{val}
-use Rattle.values.specs.Model.{Val}
+use Rattle.value_model.specs.Model.{Val}
 use Rattle.writing.specs.Displays.{written}
 
 -- a target: its name, its type as it is written, and its content or none

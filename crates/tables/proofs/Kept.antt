@@ -12,11 +12,11 @@ use Rattle.tables.specs.Laws.{has_key, NoKey, OthersAlike, Selection, Associatio
 use Rattle.tables.specs.Tables.{selected, changed, past, associated, entered, added}
 use Rattle.types.specs.Model.{Ty, tables}
 use Rattle.types.specs.Types.{leads, ascending, leads_keys, ascending_keys, formed, all_formed, pairs_formed, Of}
-use Rattle.values.proofs.Ordered.{cmp_order, cmp_same, cmp_equal}
-use Rattle.values.specs.Model.{Val, Vals, Pairs, empty, pair, table}
-use Rattle.values.specs.Order.{cmp}
-use Rattle.values.specs.Rows.{keys}
-use Rattle.values.specs.Sizes.{size, sizes, pair_sizes}
+use Rattle.value_model.proofs.Ordered.{cmp_order, cmp_same, cmp_equal}
+use Rattle.value_model.specs.Model.{Val, Vals, Pairs, empty, pair, table}
+use Rattle.value_model.specs.Order.{cmp}
+use Rattle.value_model.specs.Rows.{keys}
+use Rattle.value_model.specs.Sizes.{size, sizes, pair_sizes}
 
 -- ---- a table of a type
 

@@ -8,9 +8,9 @@ use Rattle.tables.specs.Entries.{Entry, entry, by_key, by_entry, keyed}
 use Rattle.tables.specs.Laws.{leads_in, ascending_in}
 use Rattle.tables.specs.Tables.{changed, past, entered}
 use Rattle.types.specs.Types.{ascending_keys}
-use Rattle.values.proofs.Ordered.{cmp_order, cmp_same}
-use Rattle.values.specs.Model.{Val, Pairs, empty, pair, comp, none, more}
-use Rattle.values.specs.Order.{cmp}
+use Rattle.value_model.proofs.Ordered.{cmp_order, cmp_same}
+use Rattle.value_model.specs.Model.{Val, Pairs, empty, pair, comp, none, more}
+use Rattle.value_model.specs.Order.{cmp}
 
 pub by_key_order : TotalOrder by_key
 by_key_order = record { flip = flip; trans = trans; alike = alike }

@@ -5,8 +5,8 @@ use Rattle.std.proofs.lemmas.Bool.{cond-false, ne_eqb}
 use Rattle.std.specs.Ordering.{is_eq, is_lt}
 use Rattle.tables.specs.Entries.{Entry, entry, entries_of, by_key, by_entry, keyed}
 use Rattle.tables.specs.Tables.{selected, changed, past, entered, spliced, later}
-use Rattle.values.specs.Model.{Val, Pairs, empty, pair}
-use Rattle.values.specs.Order.{cmp}
+use Rattle.value_model.specs.Model.{Val, Pairs, empty, pair}
+use Rattle.value_model.specs.Order.{cmp}
 
 pub entries_same : (q p : Pairs) → entries_of q ≡ entries_of p → q ≡ p
 entries_same empty empty e = refl

@@ -2,8 +2,8 @@
 use Rattle.std.specs.Prelude.{List, [], ◌∷◌}
 use Rattle.std.specs.declared.cmp.Ordering.{Ordering}
 use Rattle.std.specs.Ordering.{ordering_then}
-use Rattle.values.specs.Model.{Val, Pairs, empty, pair}
-use Rattle.values.specs.Order.{cmp}
+use Rattle.value_model.specs.Model.{Val, Pairs, empty, pair}
+use Rattle.value_model.specs.Order.{cmp}
 
 -- a key with its associate
 pub data Entry : Type 0 where

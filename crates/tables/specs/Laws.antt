@@ -7,10 +7,10 @@ use Rattle.tables.specs.Entries.{Entry, entry, entries_of, by_entry}
 use Rattle.tables.specs.Tables.{selected}
 use Rattle.types.specs.Model.{Ty, lists, tables}
 use Rattle.types.specs.Types.{ascending_keys, pairs_formed, Of}
-use Rattle.values.specs.Model.{Val, Vals, Pairs, empty, pair, list, table}
-use Rattle.values.specs.Order.{cmp}
-use Rattle.values.specs.Rows.{listed, keys}
-use Rattle.values.specs.Sizes.{size, pair_sizes}
+use Rattle.value_model.specs.Model.{Val, Vals, Pairs, empty, pair, list, table}
+use Rattle.value_model.specs.Order.{cmp}
+use Rattle.value_model.specs.Rows.{listed, keys}
+use Rattle.value_model.specs.Sizes.{size, pair_sizes}
 
 -- whether k is one of the keys
 abbrev pub has_key : Val → Pairs → Bool

@@ -4,8 +4,8 @@ use Rattle.std.specs.declared.cmp.Ordering.{Ordering}
 use Rattle.search.specs.Search.{stands}
 use Rattle.std.specs.Ordering.{is_eq, is_lt}
 use Rattle.tables.specs.Entries.{Entry, entry, entries_of, by_key, by_entry, keyed}
-use Rattle.values.specs.Model.{Val, Pairs, empty, pair}
-use Rattle.values.specs.Order.{cmp}
+use Rattle.value_model.specs.Model.{Val, Pairs, empty, pair}
+use Rattle.value_model.specs.Order.{cmp}
 
 -- the associate of k; nothing if k does not stand at its place
 abbrev pub selected : Val → Pairs → Option Val

@@ -3,7 +3,7 @@ ghost use Rattle.std.specs.Option.{option_map};
 ghost use Rattle.tables.specs.Laws.{Association, Deletion, NoKey, Addition};
 ghost use Rattle.tables.specs.Tables.{associated, deleted, added, spliced, later};
 ghost use Rattle.values.specs.Means.{val, pairs};
-ghost use Rattle.values.specs.Model.{pair};
+ghost use Rattle.value_model.specs.Model.{pair};
 
 use crate::walk::{EntryWalk, KeyWalk};
 use lists::countable;

@@ -3,7 +3,7 @@ ghost use Rattle.std.specs.Option.{option_map};
 ghost use Rattle.tables.specs.Laws.{Selection, KeyList};
 ghost use Rattle.tables.specs.Tables.{selected};
 ghost use Rattle.values.specs.Means.{val, vals, pairs};
-ghost use Rattle.values.specs.Rows.{keys};
+ghost use Rattle.value_model.specs.Rows.{keys};
 
 use crate::walk::KeyWalk;
 use search::find;

@@ -3,7 +3,7 @@ use Rattle.std.proofs.Common.{◌≡◌, ℕ, true, List, ℤ, refl}
 use Rattle.std.proofs.lemmas.Bool.{and_parts, false≢true}
 use Rattle.types.specs.Model.{Ty, Tys, number, texts, comps, lists, tables}
 use Rattle.types.specs.Types.{bounded, printables, ascending, ascending_keys, formed, each_formed, all_formed, pairs_formed}
-use Rattle.values.specs.Model.{Vals, Pairs, num, text, comp, list, table}
+use Rattle.value_model.specs.Model.{Vals, Pairs, num, text, comp, list, table}
 
 pub number_kind : (z : ℤ) (t : Ty) → formed (num z) t ≡ true → (t ≡ number) × (bounded z ≡ true)
 number_kind z number h = (refl, h)

@@ -2,9 +2,9 @@
 use Rattle.std.specs.Prelude.{◌≡◌, ℕ, suc, Bool, true, false, not, ◌&&◌, List, [], ◌∷◌, ℤ, pos, negsuc, nat_le}
 use Rattle.std.specs.Ordering.{is_lt, is_gt}
 use Rattle.types.specs.Model.{Ty, Tys, number, texts, comps, lists, tables, end, also}
-use Rattle.values.specs.Model.{Val, Vals, Pairs, num, text, comp, list, table, none, more, empty, pair}
-use Rattle.values.specs.Order.{cmp}
-use Rattle.values.specs.Sizes.{size}
+use Rattle.value_model.specs.Model.{Val, Vals, Pairs, num, text, comp, list, table, none, more, empty, pair}
+use Rattle.value_model.specs.Order.{cmp}
+use Rattle.value_model.specs.Sizes.{size}
 
 -- from -999,999,999 to 999,999,999
 abbrev pub bounded : ℤ → Bool

@@ -1,1 +1,1 @@
-pub mod Ordered
+pub mod Shared

@@ -1,5 +1,2 @@
-pub mod Model
-pub mod Rows
 pub mod Means
-pub mod Sizes
-pub mod Order
+pub mod Entries

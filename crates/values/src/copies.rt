@@ -1,42 +1,31 @@
-ghost use Rattle.std.specs.Prelude.{◌≡◌, IfOk};
-ghost use Rattle.values.specs.Means.{val, vals, pairs};
+ghost use Rattle.std.specs.Prelude.{◌≡◌};
+ghost use Rattle.values.specs.Means.{val};
 
-use crate::value::{Entries, Row, Value};
+use crate::value::{Entry, Value};
 use std::alloc::AllocError;
 
-impl Value {
-    // The same value, sharing its parts.
-    pub fn copy(&self) -> Result<Value, AllocError>
-        ensures { IfOk result (λ v. val v ≡ val self.now) }
-    {
+// The same value, sharing what is inside.
+impl Clone for Value {
+    ghost is_clone = { λ v w. val w ≡ val v };
+
+    fn clone(&self) -> Result<Value, AllocError> {
         match self {
             Value::Number(n) => Ok(Value::Number(*n)),
             Value::Text(codes) => Ok(Value::Text(codes.clone()?)),
-            Value::Compound(row) => Ok(Value::Compound(row.share()?)),
-            Value::List(row) => Ok(Value::List(row.share()?)),
-            Value::Table(entries) => Ok(Value::Table(entries.share()?)),
+            Value::Compound(row) => Ok(Value::Compound(row.clone()?)),
+            Value::List(row) => Ok(Value::List(row.clone()?)),
+            Value::Table(entries) => Ok(Value::Table(entries.clone()?)),
         }
     }
 }
 
-impl Row {
-    pub fn share(&self) -> Result<Row, AllocError>
-        ensures { IfOk result (λ q. vals q ≡ vals self.now) }
-    {
-        match self {
-            Row::End => Ok(Row::End),
-            Row::Entry(link) => Ok(Row::Entry(link.clone()?)),
-        }
-    }
-}
+impl Clone for Entry {
+    ghost is_clone = { λ d e. (val e.key ≡ val d.key) × (val e.associate ≡ val d.associate) };
 
-impl Entries {
-    pub fn share(&self) -> Result<Entries, AllocError>
-        ensures { IfOk result (λ q. pairs q ≡ pairs self.now) }
-    {
-        match self {
-            Entries::Empty => Ok(Entries::Empty),
-            Entries::Pair(pair) => Ok(Entries::Pair(pair.clone()?)),
-        }
+    fn clone(&self) -> Result<Entry, AllocError> {
+        Ok(Entry {
+            key: self.key.clone()?,
+            associate: self.associate.clone()?,
+        })
     }
 }

@@ -1,97 +1,140 @@
 ghost use Rattle.std.specs.Prelude.{◌≡◌, Decides};
-ghost use Rattle.values.specs.Means.{val, vals, pairs};
-ghost use Rattle.values.specs.Order.{cmp, cmps, cmp_pairs, Lawful};
+ghost use Rattle.std.specs.Cmp.{eq_by_cmp_equiv, on_total, partial_equiv_from_equiv, partial_order_from_total};
+ghost use Rattle.std.specs.Ordering.{as_partial_cmp, eq_by_cmp, on};
+ghost use Rattle.value_model.proofs.Ordered.{cmp_total};
+ghost use Rattle.values.specs.Means.{val};
+ghost use Rattle.values.specs.Entries.{entry_cmp, entry_total};
+ghost use Rattle.value_model.specs.Order.{cmp, Lawful};
 
-use crate::value::{Entries, Row, Value};
+use crate::value::{Entry, Value};
 use std::cmp::Ordering;
 
 impl Value {
-    // The order of values: numbers from the lowest up, others by their first part that differs; of different kinds, by kind.
+    // The order of values, as `cmp` has it, with its laws.
     pub fn compare(&self, other: &Value) -> Ordering
         ensures value { result ≡ cmp (val self.now) (val other.now) }
         ensures lawful { Lawful }
     {
-        compare_values(self, other)
+        self.cmp(other)
     }
 
     // Whether both are the same value.
     pub fn equals(&self, other: &Value) -> bool
         ensures { Decides result (val self.now ≡ val other.now) }
     {
-        compare_values(self, other).is_eq()
+        self == other
     }
 }
 
-#[cycle(order)]
-fn compare_values(a: &Value, b: &Value) -> Ordering
-    ensures { result ≡ cmp (val a.now) (val b.now) }
-{
-    match a {
-        Value::Number(m) => match b {
-            Value::Number(n) => m.cmp(n),
-            Value::Text(_) | Value::Compound(_) | Value::List(_) | Value::Table(_) =>
-                Ordering::Less,
-        },
-        Value::Text(s) => match b {
-            Value::Number(_) => Ordering::Greater,
-            Value::Text(t) => s.as_slice().cmp(&t.as_slice()),
-            Value::Compound(_) | Value::List(_) | Value::Table(_) => Ordering::Less,
-        },
-        Value::Compound(r) => match b {
-            Value::Number(_) | Value::Text(_) => Ordering::Greater,
-            Value::Compound(q) => compare_rows(r, q),
-            Value::List(_) | Value::Table(_) => Ordering::Less,
-        },
-        Value::List(r) => match b {
-            Value::Number(_) | Value::Text(_) | Value::Compound(_) => Ordering::Greater,
-            Value::List(q) => compare_rows(r, q),
-            Value::Table(_) => Ordering::Less,
-        },
-        Value::Table(p) => match b {
-            Value::Number(_) | Value::Text(_) | Value::Compound(_) | Value::List(_) =>
-                Ordering::Greater,
-            Value::Table(q) => compare_entries(p, q),
-        },
+impl PartialEq for Value {
+    ghost eq = { eq_by_cmp (on val cmp) };
+
+    ghost laws = { partial_equiv_from_equiv (eq_by_cmp_equiv (on_total val cmp_total)) };
+
+    #[cycle(order)]
+    fn eq(&self, other: &Value) -> bool {
+        self.cmp(other).is_eq()
     }
 }
 
-#[cycle(order)]
-fn compare_rows(a: &Row, b: &Row) -> Ordering
-    ensures { result ≡ cmps (vals a.now) (vals b.now) }
-{
-    match a {
-        Row::End => match b {
-            Row::End => Ordering::Equal,
-            Row::Entry(_) => Ordering::Less,
-        },
-        Row::Entry(x) => match b {
-            Row::End => Ordering::Greater,
-            Row::Entry(y) => match compare_values(&x.head, &y.head) {
-                Ordering::Equal => compare_rows(&x.rest, &y.rest),
-                unequal => unequal,
+impl Eq for Value {
+    ghost laws = { eq_by_cmp_equiv (on_total val cmp_total) };
+}
+
+impl PartialOrd for Value {
+    ghost partial_cmp = { as_partial_cmp (on val cmp) };
+
+    ghost laws = { partial_order_from_total (on_total val cmp_total) };
+
+    #[cycle(order)]
+    fn partial_cmp(&self, other: &Value) -> Option<Ordering> {
+        Some(self.cmp(other))
+    }
+}
+
+// The order of values: numbers from the lowest up, others by their first part that differs; of different kinds, by kind.
+impl Ord for Value {
+    ghost cmp = { on val cmp };
+
+    ghost total = { on_total val cmp_total };
+
+    ghost matches_partial_cmp = { λ v w. λ i. as_partial_cmp (on val cmp) v w };
+
+    ghost matches_eq = { λ v w. λ i. eq_by_cmp (on val cmp) v w };
+
+    #[cycle(order)]
+    fn cmp(&self, other: &Value) -> Ordering {
+        match self {
+            Value::Number(m) => match other {
+                Value::Number(n) => m.cmp(n),
+                Value::Text(_) | Value::Compound(_) | Value::List(_) | Value::Table(_) =>
+                    Ordering::Less,
             },
-        },
+            Value::Text(s) => match other {
+                Value::Number(_) => Ordering::Greater,
+                Value::Text(t) => s.cmp(t),
+                Value::Compound(_) | Value::List(_) | Value::Table(_) => Ordering::Less,
+            },
+            Value::Compound(r) => match other {
+                Value::Number(_) | Value::Text(_) => Ordering::Greater,
+                Value::Compound(q) => r.cmp(q),
+                Value::List(_) | Value::Table(_) => Ordering::Less,
+            },
+            Value::List(r) => match other {
+                Value::Number(_) | Value::Text(_) | Value::Compound(_) => Ordering::Greater,
+                Value::List(q) => r.cmp(q),
+                Value::Table(_) => Ordering::Less,
+            },
+            Value::Table(p) => match other {
+                Value::Number(_) | Value::Text(_) | Value::Compound(_) | Value::List(_) =>
+                    Ordering::Greater,
+                Value::Table(q) => p.cmp(q),
+            },
+        }
     }
 }
 
-#[cycle(order)]
-fn compare_entries(a: &Entries, b: &Entries) -> Ordering
-    ensures { result ≡ cmp_pairs (pairs a.now) (pairs b.now) }
-{
-    match a {
-        Entries::Empty => match b {
-            Entries::Empty => Ordering::Equal,
-            Entries::Pair(_) => Ordering::Less,
-        },
-        Entries::Pair(x) => match b {
-            Entries::Empty => Ordering::Greater,
-            Entries::Pair(y) => match compare_values(&x.key, &y.key) {
-                Ordering::Equal => match compare_values(&x.associate, &y.associate) {
-                    Ordering::Equal => compare_entries(&x.rest, &y.rest),
-                    unequal => unequal,
-                },
-                unequal => unequal,
-            },
-        },
+impl PartialEq for Entry {
+    ghost eq = { eq_by_cmp entry_cmp };
+
+    ghost laws = { partial_equiv_from_equiv (eq_by_cmp_equiv entry_total) };
+
+    #[cycle(order)]
+    fn eq(&self, other: &Entry) -> bool {
+        self.cmp(other).is_eq()
+    }
+}
+
+impl Eq for Entry {
+    ghost laws = { eq_by_cmp_equiv entry_total };
+}
+
+impl PartialOrd for Entry {
+    ghost partial_cmp = { as_partial_cmp entry_cmp };
+
+    ghost laws = { partial_order_from_total entry_total };
+
+    #[cycle(order)]
+    fn partial_cmp(&self, other: &Entry) -> Option<Ordering> {
+        Some(self.cmp(other))
+    }
+}
+
+// Entries go by key, and then by associate.
+impl Ord for Entry {
+    ghost cmp = { entry_cmp };
+
+    ghost total = { entry_total };
+
+    ghost matches_partial_cmp = { λ d e. λ i. as_partial_cmp entry_cmp d e };
+
+    ghost matches_eq = { λ d e. λ i. eq_by_cmp entry_cmp d e };
+
+    #[cycle(order)]
+    fn cmp(&self, other: &Entry) -> Ordering {
+        match self.key.cmp(&other.key) {
+            Ordering::Equal => self.associate.cmp(&other.associate),
+            unequal => unequal,
+        }
     }
 }

@@ -1,72 +1,64 @@
-ghost use Rattle.std.specs.Prelude.{◌≡◌, ◌-◌, ◌^◌, min, nat_le};
-ghost use Rattle.values.specs.Means.{val, vals, pairs};
-ghost use Rattle.values.specs.Sizes.{size, sizes, pair_sizes};
+ghost use Rattle.std.specs.Prelude.{◌≡◌, ℕ, ◌+◌, ◌-◌, ◌^◌, min, nat_le};
+ghost use Rattle.std.specs.List.{sum_by};
+ghost use Rattle.value_model.specs.Sizes.{size};
+ghost use Rattle.values.specs.Means.{val};
 
-use crate::value::{Entries, Row, Value};
+use crate::value::{Entry, Value};
 
 // The most that the size of a value may be.
 pub const SIZE_LIMIT: usize = 256;
 
-impl Value {
-    // 1 for a number, 1 and its characters for a text, 1 and the sizes of its parts for any other value, as far as a word counts.
+// What has a size, as far as a word counts it.
+pub trait HasSize {
+    ghost size_of: { Self → ℕ };
+
+    fn size(&self) -> usize
+        ensures { result ≡ min (size_of self.now) (2 ^ 64 - 1) };
+}
+
+// The sizes of the items together.
+impl<T: HasSize> HasSize for Vec<T> {
+    ghost size_of = { λ v. sum_by T.size_of v.items };
+
+    fn size(&self) -> usize {
+        let mut total: usize = 0;
+        for item in self {
+            total = total.saturating_add(item.size());
+        }
+        total
+    }
+}
+
+impl HasSize for Entry {
+    ghost size_of = { λ e. size (val e.key) + size (val e.associate) };
+
     #[cycle(sizes)]
-    pub fn size(&self) -> usize
-        ensures { result ≡ min (size (val self.now)) (2 ^ 64 - 1) }
-    {
+    fn size(&self) -> usize {
+        self.key.size().saturating_add(self.associate.size())
+    }
+}
+
+// 1 for a number, 1 and its characters for a text, 1 and the sizes of its parts for any other value.
+impl HasSize for Value {
+    ghost size_of = { λ v. size (val v) };
+
+    #[cycle(sizes)]
+    fn size(&self) -> usize {
         match self {
             Value::Number(_) => 1,
             Value::Text(codes) => codes.len().saturating_add(1),
-            Value::Compound(row) | Value::List(row) => size_of_row(row).saturating_add(1),
-            Value::Table(entries) => size_of_entries(entries).saturating_add(1),
+            Value::Compound(row) => row.size().saturating_add(1),
+            Value::List(row) => row.size().saturating_add(1),
+            Value::Table(entries) => entries.size().saturating_add(1),
         }
     }
+}
 
+impl Value {
     // Whether the size is within the limit.
     pub fn fits(&self) -> bool
         ensures { result ≡ nat_le (size (val self.now)) 256 }
     {
         self.size() <= SIZE_LIMIT
-    }
-}
-
-impl Row {
-    // The sizes of the values together, as far as a word counts.
-    pub fn size(&self) -> usize
-        ensures { result ≡ min (sizes (vals self.now)) (2 ^ 64 - 1) }
-    {
-        size_of_row(self)
-    }
-}
-
-impl Entries {
-    // The sizes of the keys and associates together, as far as a word counts.
-    pub fn size(&self) -> usize
-        ensures { result ≡ min (pair_sizes (pairs self.now)) (2 ^ 64 - 1) }
-    {
-        size_of_entries(self)
-    }
-}
-
-#[cycle(sizes)]
-fn size_of_row(row: &Row) -> usize
-    ensures { result ≡ min (sizes (vals row.now)) (2 ^ 64 - 1) }
-{
-    match row {
-        Row::End => 0,
-        Row::Entry(link) => link.head.size().saturating_add(size_of_row(&link.rest)),
-    }
-}
-
-#[cycle(sizes)]
-fn size_of_entries(entries: &Entries) -> usize
-    ensures { result ≡ min (pair_sizes (pairs entries.now)) (2 ^ 64 - 1) }
-{
-    match entries {
-        Entries::Empty => 0,
-        Entries::Pair(pair) => pair
-            .key
-            .size()
-            .saturating_add(pair.associate.size())
-            .saturating_add(size_of_entries(&pair.rest)),
     }
 }

@@ -1,43 +1,20 @@
 use std::rc::Rc;
 
-// A value of any type. A text holds the codes of its characters.
+// A value of any type. A text holds the codes of its characters. What is inside a value is shared with its clones.
 #[cycle(value)]
 #[derive(Drop)]
 pub enum Value {
     Number(i32),
     Text(Rc<Vec<u8>>),
-    Compound(Row),
-    List(Row),
-    Table(Entries),
+    Compound(Rc<Vec<Value>>),
+    List(Rc<Vec<Value>>),
+    Table(Rc<Vec<Entry>>),
 }
 
-// A row of values: the fields of a compound, or the entries of a list.
+// An entry of a table: a key with its associate.
 #[cycle(value)]
 #[derive(Drop)]
-pub enum Row {
-    End,
-    Entry(Rc<Link>),
-}
-
-#[cycle(value)]
-#[derive(Drop)]
-pub struct Link {
-    pub head: Value,
-    pub rest: Row,
-}
-
-// The entries of a table, each a key with its associate.
-#[cycle(value)]
-#[derive(Drop)]
-pub enum Entries {
-    Empty,
-    Pair(Rc<Pair>),
-}
-
-#[cycle(value)]
-#[derive(Drop)]
-pub struct Pair {
+pub struct Entry {
     pub key: Value,
     pub associate: Value,
-    pub rest: Entries,
 }

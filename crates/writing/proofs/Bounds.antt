@@ -9,8 +9,8 @@ use Rattle.std.specs.Int.Digits.{digits_of}
 use Rattle.types.proofs.ByKind.{number_kind, comp_kind, list_kind, table_kind}
 use Rattle.types.specs.Model.{Ty, Tys, end, also}
 use Rattle.types.specs.Types.{bounded, formed, each_formed, all_formed, pairs_formed, Of}
-use Rattle.values.specs.Model.{Val, Vals, Pairs, num, text, comp, list, table, none, more, empty, pair}
-use Rattle.values.specs.Sizes.{size, sizes, pair_sizes}
+use Rattle.value_model.specs.Model.{Val, Vals, Pairs, num, text, comp, list, table, none, more, empty, pair}
+use Rattle.value_model.specs.Sizes.{size, sizes, pair_sizes}
 use Rattle.writing.proofs.Codes.{inner_long}
 use Rattle.writing.proofs.Pieces.{text_long, items_long, entries_long}
 use Rattle.writing.specs.Displays.{written, parted, shown_items, shown_entries}

@@ -2,7 +2,7 @@
 use Rattle.std.proofs.Common.{◌≡◌, ℕ, Bool, true, false, List, ◌∷◌, ◌++◌, sym, refl, ap, ◌∙◌, append_assoc}
 use Rattle.notation.proofs.Quoting.{inner_joins}
 use Rattle.notation.specs.Numbers.{int}
-use Rattle.values.specs.Model.{Val, Vals, Pairs, num, text, comp, list, table, none, more, empty, pair}
+use Rattle.value_model.specs.Model.{Val, Vals, Pairs, num, text, comp, list, table, none, more, empty, pair}
 use Rattle.writing.specs.Displays.{parted, shown, shown_items, shown_entries}
 
 parted_joins : (first : Bool) (sep : ℕ) (x y : List ℕ) → parted first sep (x ++ y) ≡ parted first sep x ++ y

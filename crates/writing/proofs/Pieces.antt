@@ -2,7 +2,7 @@
 use Rattle.std.proofs.Common.{◌≡◌, ℕ, ◌+◌, Bool, true, false, cond, List, [], ◌∷◌, ◌++◌, length, sym, refl, ap, ◌∙◌, append_assoc, arith, length-append}
 use Rattle.notation.proofs.Quoting.{inner_joins}
 use Rattle.notation.specs.Texts.{inner}
-use Rattle.values.specs.Model.{Val, Vals, Pairs, text, more, pair}
+use Rattle.value_model.specs.Model.{Val, Vals, Pairs, text, more, pair}
 use Rattle.writing.proofs.Joined.{shown_joins}
 use Rattle.writing.specs.Displays.{parted, shown, shown_items, shown_entries, written}
 

@@ -2,7 +2,7 @@
 use Rattle.std.specs.Prelude.{ℕ, Bool, true, false, List, [], ◌∷◌, ◌++◌}
 use Rattle.notation.specs.Numbers.{int}
 use Rattle.notation.specs.Texts.{inner}
-use Rattle.values.specs.Model.{Val, Vals, Pairs, num, text, comp, list, table, none, more, empty, pair}
+use Rattle.value_model.specs.Model.{Val, Vals, Pairs, num, text, comp, list, table, none, more, empty, pair}
 
 -- what follows the first of a row stands behind the byte sep and a blank
 abbrev pub parted : Bool → ℕ → List ℕ → List ℕ

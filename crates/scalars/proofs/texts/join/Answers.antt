@@ -3,7 +3,7 @@ use Rattle.scalars.proofs.Kept.{append_kept}
 use Rattle.scalars.proofs.texts.join.Goals as goal
 use Rattle.std.proofs.lemmas.Result.{IfOk-weaker}
 use Rattle.values.specs.Means.{val}
-use Rattle.values.specs.Model.{text}
+use Rattle.value_model.specs.Model.{text}
 
 pub returns : goal.returns
 returns c =

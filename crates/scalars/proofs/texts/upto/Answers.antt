@@ -3,7 +3,7 @@ use Rattle.scalars.proofs.Kept.{take_kept}
 use Rattle.scalars.proofs.Parts.{prefix_within}
 use Rattle.scalars.proofs.texts.upto.Goals as goal
 use Rattle.values.specs.Means.{val}
-use Rattle.values.specs.Model.{text}
+use Rattle.value_model.specs.Model.{text}
 
 pub returns : goal.returns
 returns c =

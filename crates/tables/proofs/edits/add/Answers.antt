@@ -7,7 +7,7 @@ use Rattle.tables.proofs.Places.{changed_spliced, entered_standing, spliced_alik
 use Rattle.tables.specs.Entries.{by_entry, entry, entries_of}
 use Rattle.tables.specs.Tables.{entered, added, spliced}
 use Rattle.values.specs.Means.{val, pairs}
-use Rattle.values.specs.Model.{pair}
+use Rattle.value_model.specs.Model.{pair}
 
 pub returns-then-place : goal.returns-then-place
 returns-then-place c =

@@ -7,7 +7,7 @@ use Rattle.tables.proofs.Places.{changed_spliced, past_standing}
 use Rattle.tables.specs.Entries.{by_key, keyed, entries_of}
 use Rattle.tables.specs.Tables.{past, associated, spliced}
 use Rattle.values.specs.Means.{val, pairs}
-use Rattle.values.specs.Model.{pair}
+use Rattle.value_model.specs.Model.{pair}
 
 pub returns : goal.returns
 returns c =

@@ -3,7 +3,7 @@ use Rattle.tables.proofs.Kept.{key_list}
 use Rattle.tables.proofs.reads.+keys.Goals as goal
 use Rattle.values.specs.declared.value.Row.{Entry}
 use Rattle.values.specs.Means.{vals, pairs}
-use Rattle.values.specs.Rows.{keys}
+use Rattle.value_model.specs.Rows.{keys}
 
 pub returns-in_ok-new-in-Pair : goal.returns-in_ok-new-in-Pair
 returns-in_ok-new-in-Pair t c =

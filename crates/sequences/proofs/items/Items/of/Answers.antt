@@ -3,7 +3,7 @@ use Rattle.sequences.proofs.items.Items.of.Goals as goal
 use Rattle.sequences.proofs.Typed.{typed}
 use Rattle.sequences.specs.Sequences.{letter, associates, items_of}
 use Rattle.values.specs.Means.{val, vals, pairs}
-use Rattle.values.specs.Rows.{listed}
+use Rattle.value_model.specs.Rows.{listed}
 
 pub returns-in_ok-clone-in-Text : goal.returns-in_ok-clone-in-Text
 returns-in_ok-clone-in-Text c =

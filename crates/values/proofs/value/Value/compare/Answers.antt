@@ -1,5 +1,5 @@
-use Rattle.values.proofs.Ordered.{lawful}
+use Rattle.value_model.proofs.Ordered.{lawful}
 use Rattle.values.proofs.value.Value.compare.Goals as goal
 
-pub returns : goal.returns
-returns c = record { value = c.compare_values.ensures; lawful = lawful }
+pub returns-clause-lawful : goal.returns-clause-lawful
+returns-clause-lawful c = lawful

@@ -4,11 +4,11 @@ use Rattle.search.proofs.Orders.{is_equal}
 use Rattle.search.specs.Search.{TotalOrder}
 use Rattle.std.proofs.lemmas.Int.{ints}
 use Rattle.std.proofs.lemmas.Bool.Decides.{nat_tests}
-use Rattle.std.specs.Cmp.{int_cmp_total}
+use Rattle.std.specs.Cmp.{IsTotalOrder, int_cmp_total}
 use Rattle.std.specs.Cmp.Lexicographic.{slice_cmp, lists_total}
 use Rattle.std.specs.Ordering.{is_eq, ordering_then, ordering_reverse, int_cmp, nat_cmp}
-use Rattle.values.specs.Model.{Val, Vals, Pairs, num, text, comp, list, table, none, more, empty, pair}
-use Rattle.values.specs.Order.{cmp, cmps, cmp_pairs, Lawful}
+use Rattle.value_model.specs.Model.{Val, Vals, Pairs, num, text, comp, list, table, none, more, empty, pair}
+use Rattle.value_model.specs.Order.{cmp, cmps, cmp_pairs, Lawful}
 
 -- a text ends with -1, below each code; a row with 0, below the mark that each value begins with
 abbrev letters : List ℕ → List ℤ → List ℤ
@@ -34,7 +34,7 @@ abbrev mutual
 abbrev at : List ℤ → List ℤ → Ordering
 at x y = slice_cmp int_cmp x y
 
-then_assoc : (a b c : Ordering) → ordering_then a (ordering_then b c) ≡ ordering_then (ordering_then a b) c
+pub then_assoc : (a b c : Ordering) → ordering_then a (ordering_then b c) ≡ ordering_then (ordering_then a b) c
 then_assoc Less b c = refl
 then_assoc Equal b c = refl
 then_assoc Greater b c = refl
@@ -115,12 +115,15 @@ code v = flat v []
 is_code : (v w : Val) → cmp v w ≡ at (code v) (code w)
 is_code v w = sym (spread v w [] [] ∙ then_equal (cmp v w))
 
-pub cmp_order : TotalOrder cmp
-cmp_order = record {
-  flip = λ v w. is_code v w ∙ (lists_total int_cmp_total).antisymm (code v) (code w) ∙ ap ordering_reverse (sym (is_code w v));
+pub cmp_total : IsTotalOrder cmp
+cmp_total = record {
+  antisymm = λ v w. is_code v w ∙ (lists_total int_cmp_total).antisymm (code v) (code w) ∙ ap ordering_reverse (sym (is_code w v));
   trans = λ u v w h k. is_code u w ∙ (lists_total int_cmp_total).trans (code u) (code v) (code w) (sym (is_code u v) ∙ h) (sym (is_code v w) ∙ k);
-  alike = λ u v w h. is_code u w ∙ (lists_total int_cmp_total).congr (code u) (code v) (code w) (sym (is_code u v) ∙ h) ∙ sym (is_code v w);
+  congr = λ u v w h. is_code u w ∙ (lists_total int_cmp_total).congr (code u) (code v) (code w) (sym (is_code u v) ∙ h) ∙ sym (is_code v w);
 }
+
+pub cmp_order : TotalOrder cmp
+cmp_order = record { flip = cmp_total.antisymm; trans = cmp_total.trans; alike = cmp_total.congr }
 
 -- ---- equal in the order, equal
 

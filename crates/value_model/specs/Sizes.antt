@@ -1,6 +1,6 @@
 -- The size of a value.
 use Rattle.std.specs.Prelude.{ℕ, ◌+◌, length}
-use Rattle.values.specs.Model.{Val, Vals, Pairs, num, text, comp, list, table, none, more, empty, pair}
+use Rattle.value_model.specs.Model.{Val, Vals, Pairs, num, text, comp, list, table, none, more, empty, pair}
 
 abbrev mutual
   pub size : Val → ℕ

@@ -1,0 +1,4 @@
+pub mod Model
+pub mod Rows
+pub mod Sizes
+pub mod Order

@@ -1,0 +1,2 @@
+// Values as mathematics has them, with their order and their size.
+#![tactic(auto)]
