@@ -1,7 +1,6 @@
 -- Types, as mathematics has them, and what a type of the code means.
-use Rattle.types.specs.declared.value_type.Fields.{Fields}
-use Rattle.types.specs.declared.value_type.Fields.TheVariants as types
-use Rattle.types.specs.declared.value_type.ValueType.{ValueType}
+use Rattle.std.specs.Prelude.{List, [], ◌∷◌}
+use Rattle.types.specs.declared.value_type.ValueType.{ValueType, Number, Text, Compound', List', Table', Row_of-ValueType, end_of-ValueType, more_of-ValueType}
 
 mutual
   pub data Ty : Type 0 where
@@ -17,12 +16,17 @@ mutual
 
 abbrev mutual
   pub ty_of : ValueType → Ty
-  ty_of types.Number = number
-  ty_of types.Text = texts
-  ty_of (types.Compound f) = comps (tys_of f)
-  ty_of (types.List' c t) = lists (ty_of t)
-  ty_of (types.Table' c k a) = tables (ty_of k) (ty_of a)
+  ty_of Number = number
+  ty_of Text = texts
+  ty_of (Compound' c s r) = comps (row_tys r)
+  ty_of (List' c t) = lists (ty_of t)
+  ty_of (Table' c k a) = tables (ty_of k) (ty_of a)
 
-  pub tys_of : Fields → Tys
-  tys_of types.End = end
-  tys_of (types.Entry' c t f) = also (ty_of t) (tys_of f)
+  pub row_tys : {n : _} → Row_of-ValueType n → Tys
+  row_tys end_of-ValueType = end
+  row_tys (more_of-ValueType t r) = also (ty_of t) (row_tys r)
+
+-- the types of a row
+abbrev pub tys_of : List ValueType → Tys
+tys_of [] = end
+tys_of (t ∷ ts) = also (ty_of t) (tys_of ts)

@@ -1,10 +1,10 @@
 ghost use Rattle.std.specs.Prelude.{◌≡◌};
 ghost use Rattle.types.specs.Model.{ty_of, tys_of};
-ghost use Rattle.types.specs.Types.{of, formed, each_formed, all_formed, pairs_formed, ascending, leads, ascending_keys, leads_keys, bounded, printable, printables};
+ghost use Rattle.types.specs.Types.{of, formed, each_formed, all_formed, pairs_formed, ascending_keys, bounded, printables};
 ghost use Rattle.values.specs.Means.{val, vals, pairs};
 
-use crate::value_type::{Fields, ValueType};
-use values::{Entries, Row, Value};
+use crate::value_type::ValueType;
+use values::{Entry, HasSize, Value};
 
 // The highest number; the lowest is its opposite.
 pub const BOUND: i32 = 999_999_999;
@@ -38,7 +38,7 @@ fn is_formed(value: &Value, expected: &ValueType) -> bool
             ValueType::Number | ValueType::Text | ValueType::List(_) | ValueType::Table(_) => false,
         },
         Value::List(row) => match expected {
-            ValueType::List(item) => is_ascending(row) && are_all_formed(row, item),
+            ValueType::List(item) => row.is_sorted() && are_all_formed(row, item),
             ValueType::Number | ValueType::Text | ValueType::Compound(_) | ValueType::Table(_) =>
                 false,
         },
@@ -52,42 +52,42 @@ fn is_formed(value: &Value, expected: &ValueType) -> bool
 }
 
 #[cycle(formed)]
-fn is_each_formed(row: &Row, fields: &Fields) -> bool
+fn is_each_formed(row: &[Value], fields: &[ValueType]) -> bool
     ensures { result ≡ each_formed (vals row.now) (tys_of fields.now) }
 {
-    match row {
-        Row::End => match fields {
-            Fields::End => true,
-            Fields::Entry(_) => false,
-        },
-        Row::Entry(link) => match fields {
-            Fields::End => false,
-            Fields::Entry(field) => is_formed(&link.head, &field.head)
-                && is_each_formed(&link.rest, &field.rest),
-        },
+    if row.len() != fields.len() {
+        return false;
     }
+    for (value, field) in row.iter().zip(fields) {
+        if !is_formed(value, field) {
+            return false;
+        }
+    }
+    true
 }
 
 #[cycle(formed)]
-fn are_all_formed(row: &Row, item: &ValueType) -> bool
+fn are_all_formed(row: &[Value], item: &ValueType) -> bool
     ensures { result ≡ all_formed (vals row.now) (ty_of item.now) }
 {
-    match row {
-        Row::End => true,
-        Row::Entry(link) => is_formed(&link.head, item) && are_all_formed(&link.rest, item),
+    for value in row {
+        if !is_formed(value, item) {
+            return false;
+        }
     }
+    true
 }
 
 #[cycle(formed)]
-fn are_pairs_formed(entries: &Entries, key: &ValueType, associate: &ValueType) -> bool
+fn are_pairs_formed(entries: &[Entry], key: &ValueType, associate: &ValueType) -> bool
     ensures { result ≡ pairs_formed (pairs entries.now) (ty_of key.now) (ty_of associate.now) }
 {
-    match entries {
-        Entries::Empty => true,
-        Entries::Pair(pair) => is_formed(&pair.key, key)
-            && is_formed(&pair.associate, associate)
-            && are_pairs_formed(&pair.rest, key, associate),
+    for entry in entries {
+        if !is_formed(&entry.key, key) || !is_formed(&entry.associate, associate) {
+            return false;
+        }
     }
+    true
 }
 
 fn is_bounded(n: i32) -> bool
@@ -96,59 +96,16 @@ fn is_bounded(n: i32) -> bool
     -BOUND <= n && n <= BOUND
 }
 
+// Whether a text may have each of the characters.
 fn are_printable(codes: &[u8]) -> bool
     ensures { result ≡ printables codes.now }
 {
-    for c in codes {
-        if !is_printable(*c) {
-            return false;
-        }
-    }
-    true
+    codes.iter().all(|code| matches!(code, 32..=126))
 }
 
-// Whether a text may have the character.
-fn is_printable(code: u8) -> bool
-    ensures { result ≡ printable code }
-{
-    match code {
-        32..=126 => true,
-        _ => false,
-    }
-}
-
-fn is_ascending(row: &Row) -> bool
-    ensures { result ≡ ascending (vals row.now) }
-{
-    match row {
-        Row::End => true,
-        Row::Entry(link) => leads(&link.head, &link.rest) && is_ascending(&link.rest),
-    }
-}
-
-fn leads(value: &Value, row: &Row) -> bool
-    ensures { result ≡ leads (val value.now) (vals row.now) }
-{
-    match row {
-        Row::End => true,
-        Row::Entry(link) => value.compare(&link.head).is_le(),
-    }
-}
-
-fn has_ascending_keys(entries: &Entries) -> bool
+// Whether each key is below the next.
+fn has_ascending_keys(entries: &[Entry]) -> bool
     ensures { result ≡ ascending_keys (pairs entries.now) }
 {
-    match entries {
-        Entries::Empty => true,
-        Entries::Pair(pair) => leads_keys(&pair.key, &pair.rest) && has_ascending_keys(&pair.rest),
-    }
-}
-
-fn leads_keys(key: &Value, entries: &Entries) -> bool
-    ensures { result ≡ leads_keys (val key.now) (pairs entries.now) }
-{
-    match entries {
-        Entries::Empty => true,
-        Entries::Pair(pair) => key.compare(&pair.key).is_lt(),
-    }
+    entries.is_sorted_by(|entry, next| entry.key < next.key)
 }

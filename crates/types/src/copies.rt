@@ -1,21 +1,18 @@
-ghost use Rattle.std.specs.Prelude.{◌≡◌, IfOk};
+ghost use Rattle.std.specs.Prelude.{◌≡◌};
 ghost use Rattle.types.specs.Model.{ty_of};
 
-use crate::value_type::{Fields, ValueType};
+use crate::value_type::ValueType;
 use std::alloc::AllocError;
 
-impl ValueType {
-    // The same type, sharing its parts.
-    pub fn copy(&self) -> Result<ValueType, AllocError>
-        ensures { IfOk result (λ t. ty_of t ≡ ty_of self.now) }
-    {
+// The same type, sharing what is inside.
+impl Clone for ValueType {
+    ghost is_clone = { λ t u. ty_of u ≡ ty_of t };
+
+    fn clone(&self) -> Result<ValueType, AllocError> {
         match self {
             ValueType::Number => Ok(ValueType::Number),
             ValueType::Text => Ok(ValueType::Text),
-            ValueType::Compound(Fields::End) => Ok(ValueType::Compound(Fields::End)),
-            ValueType::Compound(Fields::Entry(field)) => Ok(ValueType::Compound(Fields::Entry(
-                field.clone()?,
-            ))),
+            ValueType::Compound(fields) => Ok(ValueType::Compound(fields.clone()?)),
             ValueType::List(item) => Ok(ValueType::List(item.clone()?)),
             ValueType::Table(sides) => Ok(ValueType::Table(sides.clone()?)),
         }

@@ -9,4 +9,4 @@ mod show;
 mod value_type;
 
 pub use admits::BOUND;
-pub use value_type::{Field, Fields, Sides, ValueType};
+pub use value_type::{Sides, ValueType};

@@ -1,29 +1,14 @@
 use std::rc::Rc;
 
-// The type of a value.
+// The type of a value. A compound has the types of its fields. What is inside a type is shared with its clones.
 #[cycle(value_type)]
 #[derive(Drop)]
 pub enum ValueType {
     Number,
     Text,
-    Compound(Fields),
+    Compound(Rc<Vec<ValueType>>),
     List(Rc<ValueType>),
     Table(Rc<Sides>),
-}
-
-// The types of a compound's fields.
-#[cycle(value_type)]
-#[derive(Drop)]
-pub enum Fields {
-    End,
-    Entry(Rc<Field>),
-}
-
-#[cycle(value_type)]
-#[derive(Drop)]
-pub struct Field {
-    pub head: ValueType,
-    pub rest: Fields,
 }
 
 // The types of a table's keys and associates.
