@@ -1,1 +1,3 @@
 pub mod ByKind
+pub mod Shared
+pub mod Sorted

@@ -1,6 +1,6 @@
 ghost use Rattle.std.specs.Prelude.{◌≡◌};
 ghost use Rattle.types.specs.Model.{ty_of, tys_of};
-ghost use Rattle.types.specs.Types.{of, formed, each_formed, all_formed, pairs_formed, ascending_keys, bounded, printables};
+ghost use Rattle.types.specs.Types.{of, formed, each_formed, all_formed, pairs_formed, ascending, ascending_keys, bounded, printable, printables};
 ghost use Rattle.values.specs.Means.{val, vals, pairs};
 
 use crate::value_type::ValueType;
@@ -38,7 +38,7 @@ fn is_formed(value: &Value, expected: &ValueType) -> bool
             ValueType::Number | ValueType::Text | ValueType::List(_) | ValueType::Table(_) => false,
         },
         Value::List(row) => match expected {
-            ValueType::List(item) => row.is_sorted() && are_all_formed(row, item),
+            ValueType::List(item) => is_ascending(row) && are_all_formed(row, item),
             ValueType::Number | ValueType::Text | ValueType::Compound(_) | ValueType::Table(_) =>
                 false,
         },
@@ -96,16 +96,40 @@ fn is_bounded(n: i32) -> bool
     -BOUND <= n && n <= BOUND
 }
 
-// Whether a text may have each of the characters.
 fn are_printable(codes: &[u8]) -> bool
     ensures { result ≡ printables codes.now }
 {
-    codes.iter().all(|code| matches!(code, 32..=126))
+    for c in codes {
+        if !is_printable(*c) {
+            return false;
+        }
+    }
+    true
+}
+
+// Whether a text may have the character.
+fn is_printable(code: u8) -> bool
+    ensures { result ≡ printable code }
+{
+    matches!(code, 32..=126)
+}
+
+// Whether each value is at most the next.
+fn is_ascending(row: &[Value]) -> bool
+    ensures { result ≡ ascending (vals row.now) }
+{
+    row.is_sorted()
 }
 
 // Whether each key is below the next.
 fn has_ascending_keys(entries: &[Entry]) -> bool
     ensures { result ≡ ascending_keys (pairs entries.now) }
 {
-    entries.is_sorted_by(|entry, next| entry.key < next.key)
+    match entries {
+        [] => true,
+        [entry, rest @ ..] => match rest {
+            [] => true,
+            [next, ..] => entry.key < next.key && has_ascending_keys(rest),
+        },
+    }
 }

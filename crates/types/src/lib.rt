@@ -5,7 +5,6 @@
 
 mod admits;
 mod copies;
-mod show;
 mod value_type;
 
 pub use admits::BOUND;

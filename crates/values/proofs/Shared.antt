@@ -9,7 +9,7 @@ use Rattle.std.specs.Ordering.{on, ordering_then}
 use Rattle.value_model.specs.Sizes.{size, sizes, pair_sizes}
 use Rattle.value_model.specs.Order.{cmp, cmps, cmp_pairs}
 use Rattle.values.specs.declared.value.Entry.{Entry}
-use Rattle.values.specs.declared.value.Value.{Value, Compound, List as ListValue, Table, Compound', List', Table', Row_of-Value, end_of-Value, more_of-Value, Row_of-Entry, end_of-Entry, more_of-Entry, items-the_row-Value, items-the_row-Entry, items_hidden-the_row-Value-0, items_hidden-the_row-Entry-1}
+use Rattle.values.specs.declared.value.Value.{Value, Compound, List as ListValue, Table, List', Table', Row_of-Value, end_of-Value, more_of-Value, Row_of-Entry, end_of-Entry, more_of-Entry, items-the_row-Value, items-the_row-Entry, items_hidden-the_row-Value-0, items_hidden-the_row-Entry-1}
 use Rattle.value_model.proofs.Ordered.{then_assoc}
 use Rattle.values.specs.Entries.{entry_cmp}
 use Rattle.values.specs.Means.{val, vals, pairs, row_vals, row_pairs}

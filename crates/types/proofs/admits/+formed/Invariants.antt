@@ -1,16 +1,19 @@
-use Rattle.values.proofs.value.Entries.TheLaws as entries
-use Rattle.values.proofs.value.Row.TheLaws as rows
-use Rattle.values.proofs.value.Value.TheLaws as values
+use Rattle.std.proofs.Common.{◌≡◌, drop, length}
 use Rattle.types.proofs.admits.+formed.Given as goal
+use Rattle.types.specs.Model.{ty_of, tys_of}
+use Rattle.types.specs.Types.{each_formed, all_formed, pairs_formed}
+use Rattle.values.specs.Means.{vals, pairs}
 
-abbrev pub decreases-are_all_formed : goal.decreases-are_all_formed
-decreases-are_all_formed l = rows.the_size l.row.now
+-- the items not yet visited decide
+abbrev pub invariant-are_all_formed-loop-value : goal.invariant-are_all_formed-loop-value
+invariant-are_all_formed-loop-value l = all_formed (vals (drop l.value-index l.row)) (ty_of l.item) ≡ all_formed (vals l.row) (ty_of l.item)
 
-abbrev pub decreases-are_pairs_formed : goal.decreases-are_pairs_formed
-decreases-are_pairs_formed l = entries.the_size l.entries.now
+abbrev pub invariant-are_pairs_formed-loop-entry : goal.invariant-are_pairs_formed-loop-entry
+invariant-are_pairs_formed-loop-entry l =
+    pairs_formed (pairs (drop l.entry-index l.entries)) (ty_of l.key) (ty_of l.associate) ≡ pairs_formed (pairs l.entries) (ty_of l.key) (ty_of l.associate)
 
-abbrev pub decreases-is_each_formed : goal.decreases-is_each_formed
-decreases-is_each_formed l = rows.the_size l.row.now
-
-abbrev pub decreases-is_formed : goal.decreases-is_formed
-decreases-is_formed l = values.the_size l.value.now
+abbrev pub invariant-is_each_formed-loop-value : goal.invariant-is_each_formed-loop-value
+invariant-is_each_formed-loop-value l = record {
+  same : each_formed (vals l.value-iterator.a.rest.now) (tys_of l.value-iterator.b.rest.now) ≡ each_formed (vals l.row) (tys_of l.fields);
+  long : length l.value-iterator.a.rest.now ≡ length l.value-iterator.b.rest.now;
+}

@@ -1,5 +1,5 @@
-use Rattle.values.proofs.value.Entries.TheLaws as entries
+use Rattle.std.proofs.Common.{length}
 use Rattle.types.proofs.admits.+has_ascending_keys.Given as goal
 
 abbrev pub decreases-has_ascending_keys : goal.decreases-has_ascending_keys
-decreases-has_ascending_keys l = entries.the_size l.entries.now
+decreases-has_ascending_keys l = length l.entries.now

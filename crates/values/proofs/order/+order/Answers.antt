@@ -1,4 +1,4 @@
-use Rattle.std.proofs.Common.{rules, ◌≡◌}
+use Rattle.std.proofs.Common.{rules}
 use Rattle.values.proofs.Shared.{slices, entry_slices, val_list, val_compound, val_table}
 use Rattle.values.proofs.order.+order.Goals as goal
 
