@@ -1,6 +1,6 @@
 -- The numbers from one to another, put into a row from the last one down.
 use Rattle.std.proofs.Common.{◌≡◌, ℕ, zero, suc, ◌+◌, ◌-◌, ◌<◌, ◌≤◌, true, not, ℤ, pos, negsuc, ◌+ℤ◌, ◌≤ℤ◌, ◌<ℤ◌, sym, refl, ap, ◌∙◌, subst, arith}
-use Rattle.lists.proofs.Kept.{of_list}
+use Rattle.types.proofs.Of.{of_list}
 use Rattle.lists.specs.Ranges.{numbers, Count, Numbered}
 use Rattle.std.proofs.lemmas.Int.{ints}
 use Rattle.std.proofs.lemmas.Bool.{and_from, le-leb, leb-true}

@@ -1,6 +1,6 @@
 -- The laws of the operations.
 use Rattle.std.proofs.Common.{◌≡◌, ◌+◌, ◌≤◌, Bool, true, false, cond, ◌&&◌, ◌||◌, leb, ◌⊎◌, is_some, IfSome, Some, None, Option, Ordering, Less, Equal, Greater, sym, refl, ap, ◌∙◌, subst, inl, inr, arith}
-use Rattle.lists.proofs.Kept.{of_list, of_formed}
+use Rattle.types.proofs.Of.{of_list, of_formed}
 use Rattle.search.proofs.Orders.{greater, less, is_less, is_equal, less_at_most}
 use Rattle.search.specs.Search.{occurs}
 use Rattle.std.proofs.lemmas.Bool.{and_parts, and_from, le-leb, leb-true}

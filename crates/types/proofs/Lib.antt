@@ -1,3 +1,4 @@
 pub mod ByKind
+pub mod Of
 pub mod Shared
 pub mod Sorted
