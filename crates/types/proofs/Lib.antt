@@ -1,4 +1,5 @@
 pub mod ByKind
 pub mod Of
 pub mod Shared
+pub mod Shown
 pub mod Sorted

@@ -5,6 +5,7 @@
 
 mod admits;
 mod copies;
+mod show;
 mod value_type;
 
 pub use admits::BOUND;
