@@ -1,6 +1,5 @@
 pub mod Areas
+pub mod Counts
 pub mod Joined
 pub mod Naturals
-pub mod Codes
-pub mod Pieces
 pub mod Bounds

@@ -1,11 +1,24 @@
-ghost use Rattle.std.specs.Prelude.{◌+◌, ◌≤◌, [], length};
-ghost use Rattle.values.specs.Means.{val, vals, pairs};
-ghost use Rattle.writing.specs.Displays.{parted, written, shown_items, shown_entries};
-ghost use Rattle.writing.specs.Writing.{Wrote, WroteIf};
+ghost use Rattle.std.specs.Prelude.{◌≡◌, ℕ, ◌-◌, ◌^◌, ◌<◌, ◌≤◌, min, length, IfOk};
+ghost use Rattle.types.specs.Model.{Ty};
+ghost use Rattle.types.specs.Types.{Of};
+ghost use Rattle.values.specs.Means.{val};
+ghost use Rattle.writing.specs.Displays.{written};
+ghost use Rattle.writing.specs.Writing.{WroteIf};
 
-use crate::lengths::display_length;
-use crate::put::{put_byte, put_bytes, put_codes, put_number};
-use values::{Entries, Row, Value};
+use crate::sinks::{Area, Count};
+use crate::writer::write_value;
+use std::alloc::{AllocError, Global};
+use values::Value;
+
+// How many bytes the display of a value has, as far as a word counts. Of a value of any type it has at most 3,325.
+pub fn display_length(value: &Value) -> usize
+    ensures value { result ≡ min (length (written (val value.now))) (2 ^ 64 - 1) }
+    ensures short { (t : Ty) → Of t (val value.now) → result ≤ 3325 }
+{
+    let mut count = Count { bytes: 0 };
+    write_value(&mut count, value);
+    count.bytes
+}
 
 // Writes the display of a value into an area, from a place on. Answers the place after it, or nothing if there is no room.
 pub fn write_display(out: &mut [u8], at: usize, value: &Value) -> Option<usize>
@@ -15,77 +28,16 @@ pub fn write_display(out: &mut [u8], at: usize, value: &Value) -> Option<usize>
     if at > out.len() || length > out.len() - at {
         return None;
     }
-    Some(put_value(out, at, value))
+    let mut area = Area { bytes: out, at };
+    write_value(&mut area, value);
+    Some(area.at)
 }
 
-#[cycle(put)]
-fn put_value(out: &mut [u8], at: usize, value: &Value) -> usize
-    requires { at + length (written (val value.now)) ≤ length out.old }
-    ensures { Wrote out.old out.new at (written (val value.now)) result }
+// The display of a value, if a word can count its bytes; else there is no memory for it, and what is answered means nothing.
+pub fn display(heap: Global, value: &Value) -> Result<Vec<u8>, AllocError>
+    ensures { IfOk result (λ v. length (written (val value.now)) < 2 ^ 64 - 1 → v.items ≡ written (val value.now)) }
 {
-    match value {
-        Value::Number(n) => put_number(out, at, *n),
-        Value::Text(codes) => {
-            let inside = put_byte(out, at, b'\'');
-            let end = put_codes(out, inside, codes.as_slice());
-            put_byte(out, end, b'\'')
-        }
-        Value::Compound(row) => {
-            let inside = put_byte(out, at, b'(');
-            put_items(out, inside, row, true, b',', b')')
-        }
-        Value::List(row) => {
-            let inside = put_byte(out, at, b'{');
-            put_items(out, inside, row, true, b';', b'}')
-        }
-        Value::Table(entries) => {
-            let inside = put_byte(out, at, b'{');
-            put_entries(out, inside, entries, true)
-        }
-    }
-}
-
-#[cycle(put)]
-fn put_items(out: &mut [u8], at: usize, row: &Row, first: bool, sep: u8, close: u8) -> usize
-    requires { at + length (shown_items (vals row.now) first sep close []) ≤ length out.old }
-    ensures { Wrote out.old out.new at (shown_items (vals row.now) first sep close []) result }
-{
-    match row {
-        Row::End => put_byte(out, at, close),
-        Row::Entry(link) => {
-            let begin = put_parting(out, at, first, sep);
-            let end = put_value(out, begin, &link.head);
-            put_items(out, end, &link.rest, false, sep, close)
-        }
-    }
-}
-
-#[cycle(put)]
-fn put_entries(out: &mut [u8], at: usize, entries: &Entries, first: bool) -> usize
-    requires { at + length (shown_entries (pairs entries.now) first []) ≤ length out.old }
-    ensures { Wrote out.old out.new at (shown_entries (pairs entries.now) first []) result }
-{
-    match entries {
-        Entries::Empty => put_byte(out, at, b'}'),
-        Entries::Pair(pair) => {
-            let begin = put_parting(out, at, first, b';');
-            let key = put_byte(out, begin, b'[');
-            let key_end = put_value(out, key, &pair.key);
-            let associate = put_bytes(out, key_end, b"]: ");
-            let end = put_value(out, associate, &pair.associate);
-            put_entries(out, end, &pair.rest, false)
-        }
-    }
-}
-
-// What parts an entry of a row from the one before.
-fn put_parting(out: &mut [u8], at: usize, first: bool, sep: u8) -> usize
-    requires { at + length (parted first sep []) ≤ length out.old }
-    ensures { Wrote out.old out.new at (parted first sep []) result }
-{
-    if first {
-        return at;
-    }
-    let next = put_byte(out, at, sep);
-    put_byte(out, next, b' ')
+    let mut bytes = vec![in heap; 0; display_length(value)]?;
+    let _ = write_display(&mut bytes, 0, value);
+    Ok(bytes)
 }

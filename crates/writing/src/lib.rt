@@ -1,13 +1,11 @@
 // Writing displays, into an area of bytes from a place on.
 // Promise: the display of every value, byte for byte; an area too short is left as it was; the display of a value of any
 // type fits 4,096 bytes.
+// The hard idea: one writer, over anything that takes bytes: an area takes the display, a count takes its length.
 #![tactic(auto)]
 
 mod displays;
-mod lengths;
-mod owned;
-mod put;
+mod sinks;
+mod writer;
 
-pub use displays::write_display;
-pub use lengths::display_length;
-pub use owned::display;
+pub use displays::{display, display_length, write_display};
