@@ -3,9 +3,7 @@
 #![tactic(auto)]
 
 use sheets::{INPUT_LIMIT, settle};
-use std::alloc::AllocError;
-use std::io;
-use std::io::{Read, Write};
+use std::io::{self, ErrorKind, Read, Write};
 
 fn main(rt: HostRuntime) -> io::Result<()> {
     let mut input = Vec::new(rt.alloc());
@@ -17,7 +15,7 @@ fn main(rt: HostRuntime) -> io::Result<()> {
         Ok(sheet) => rt.stdout().write_all(sheet.as_slice()),
         Err(fault) => match fault.number() {
             Some(number) => println!(rt; "{number}"),
-            None => Err(AllocError.into()),
+            None => Err(ErrorKind::OutOfMemory.into()),
         },
     }
 }

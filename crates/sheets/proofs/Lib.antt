@@ -1,5 +1,3 @@
-pub mod Cuts
 pub mod Named
+pub mod Pieces
 pub mod Placed
-pub mod Turns
-pub mod Written

@@ -1,5 +1,5 @@
 -- The names of targets, by the search.
-use Rattle.std.proofs.Common.{◌≡◌, ℕ, ◌+◌, ◌-◌, ◌<◌, ◌≤◌, Bool, true, false, cond, List, [], ◌∷◌, map, length, get_or, take, drop, Some, None, Ordering, Equal, sym, refl, ap, ◌∙◌, arith}
+use Rattle.std.proofs.Common.{◌≡◌, ℕ, ◌+◌, ◌-◌, ◌<◌, ◌≤◌, Bool, true, false, cond, List, [], ◌∷◌, map, length, get_or, take, drop, Some, None, Ordering, sym, refl, ap, ◌∙◌, arith}
 use Rattle.search.proofs.Orders.{is_less, less_at_most}
 use Rattle.search.specs.Search.{TotalOrder, first, rest, rank, Found}
 use Rattle.search.specs.Search as search
@@ -8,7 +8,7 @@ use Rattle.sheets.specs.Targets.{Declared, target_of, by_code, names, among, lea
 use Rattle.std.proofs.lemmas.List.{take_all}
 use Rattle.std.proofs.lemmas.Bool.{and_parts, and_from}
 use Rattle.std.specs.Ordering.{is_lt}
-use Rattle.value_model.proofs.Ordered.{cmp_order, cmp_same}
+use Rattle.value_model.proofs.Ordered.{cmp_order}
 use Rattle.value_model.specs.Model.{text}
 
 -- names are ordered as texts are
@@ -18,9 +18,6 @@ by_code_order = record {
   trans = λ x y z. cmp_order.trans (text x) (text y) (text z);
   alike = λ x y z. cmp_order.alike (text x) (text y) (text z);
 }
-
-pub by_code_same : (x y : List ℕ) → by_code x y ≡ Equal → x ≡ y
-by_code_same x y e = let h = cmp_same (text x) (text y) e in cc
 
 -- ---- a walk along targets
 

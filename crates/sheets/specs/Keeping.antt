@@ -5,26 +5,13 @@ use Rattle.reading.specs.declared.fault.Fault.TheVariants.{Syntax, Limit}
 use Rattle.sheets.specs.declared.fault.SheetFault.{SheetFault}
 use Rattle.sheets.specs.declared.fault.SheetFault.TheVariants.{TooLong, Fields, Name, WrittenType, Taken, Full, Display, Conflict, Memory}
 use Rattle.sheets.specs.Lines.{sheet_lines}
-use Rattle.sheets.specs.Sheets.{NoName, NoType, Gives, NoContent, Line, Lines}
-use Rattle.sheets.specs.Targets.{Declared, Named, TypeIs, Whole}
+use Rattle.sheets.specs.Sheets.{Gives, NoContent, Line, Lines}
+use Rattle.sheets.specs.Targets.{Declared, Whole}
 use Rattle.std.specs.Option.{option_map}
 use Rattle.types.specs.Model.{Ty}
 use Rattle.types.specs.Types.{Of}
 use Rattle.values.specs.declared.value.Value.{Value}
 use Rattle.values.specs.Means.{val}
-
--- whether a name and a type are right
-abbrev pub Words : List ℕ → List ℕ → Result (Unit {0}) SheetFault → Type 0
-Words n s (Ok _) = Named n × ((y : Ty) × TypeIs y s)
-Words n s (Err TooLong) = ⊥
-Words n s (Err Fields) = ⊥
-Words n s (Err (Name f)) = NoName n f
-Words n s (Err (WrittenType f)) = Named n × NoType s f
-Words n s (Err Taken) = ⊥
-Words n s (Err Full) = ⊥
-Words n s (Err (Display f)) = ⊥
-Words n s (Err Conflict) = ⊥
-Words n s (Err Memory) = ⊥
 
 -- what a display of type y gives
 abbrev pub Content : Ty → List ℕ → Result (Option Value) SheetFault → Type 0

@@ -1,25 +1,11 @@
 -- The lines of a sheet, and their fields.
-use Rattle.std.specs.Prelude.{ℕ, cond, List, [], ◌∷◌, Some, None, Option, ◌==◌}
-use Rattle.sheets.specs.declared.cut.Fields.{Fields}
-
--- what stands before the first byte b, or all
-abbrev pub front : ℕ → List ℕ → List ℕ
-front b [] = []
-front b (c ∷ s) = cond (c == b) [] (c ∷ front b s)
-
--- what stands behind it, if it stands
-abbrev pub behind : ℕ → List ℕ → Option (List ℕ)
-behind b [] = None
-behind b (c ∷ s) = cond (c == b) (Some s) (behind b s)
-
-abbrev pub onto : ℕ → List (List ℕ) → List (List ℕ)
-onto c [] = (c ∷ []) ∷ []
-onto c (x ∷ xs) = (c ∷ x) ∷ xs
+use Rattle.std.specs.Prelude.{ℕ, List, [], ◌∷◌, Some, None, Option, ◌==◌}
+use Rattle.sheets.specs.declared.fields.Fields.{Fields}
+use Rattle.std.specs.List.{slice_split}
 
 -- the pieces of a text that the bytes b part: one more than there are such bytes
 abbrev pub split : ℕ → List ℕ → List (List ℕ)
-split b [] = [] ∷ []
-split b (c ∷ s) = cond (c == b) ([] ∷ split b s) (onto c (split b s))
+split b = slice_split (λ c. c == b)
 
 -- the pieces before the first empty one
 abbrev pub until_empty : List (List ℕ) → List (List ℕ)

@@ -7,7 +7,7 @@ use Rattle.sheets.specs.declared.target.Target.{Target}
 use Rattle.std.specs.Cmp.Lexicographic.{slice_cmp}
 use Rattle.std.specs.Option.{option_map}
 use Rattle.std.specs.Ordering.{is_lt, nat_cmp}
-use Rattle.std.specs.List.{AllByRecursion}
+use Rattle.std.specs.List.{flat_map, AllByRecursion}
 use Rattle.type_notation.specs.TypeTexts.{TypeForm, type_fits}
 use Rattle.types.specs.Model.{Ty}
 use Rattle.types.specs.Types.{Of}
@@ -81,5 +81,4 @@ abbrev pub target_text : Declared → List ℕ
 target_text t = t.name ++ 9 ∷ [] ++ t.type ++ 9 ∷ [] ++ content_text t.content ++ 10 ∷ []
 
 abbrev pub sheet_text : List Declared → List ℕ
-sheet_text [] = []
-sheet_text (t ∷ ts) = target_text t ++ sheet_text ts
+sheet_text = flat_map target_text

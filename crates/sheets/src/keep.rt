@@ -1,10 +1,10 @@
 ghost use Rattle.std.specs.Prelude.{map};
-ghost use Rattle.sheets.specs.Keeping.{Words, Content, KeptLine};
+ghost use Rattle.sheets.specs.Keeping.{Content, KeptLine};
 ghost use Rattle.sheets.specs.Targets.{target_of, TypeIs, Whole};
 ghost use Rattle.types.specs.Model.{Ty};
 
-use crate::cut::{Fields, read_fields};
 use crate::fault::SheetFault;
+use crate::fields::{Fields, read_fields};
 use crate::names::free_place;
 use crate::target::Target;
 use displays::read_display;
@@ -22,10 +22,9 @@ pub fn keep_line<'t>(
     requires { Whole (map target_of targets.old.items) }
     ensures { KeptLine (map target_of targets.old.items) line.now result (map target_of targets.new.items) }
 {
-    let Some(fields) = read_fields(line) else {
-        return Err(SheetFault::Fields);
-    };
-    check_words(fields)?;
+    let fields = read_fields(line).ok_or(SheetFault::Fields)?;
+    check_name(fields.name).map_err(SheetFault::Name)?;
+    check_type(fields.written_type).map_err(SheetFault::WrittenType)?;
     let place = free_place(targets.as_slice(), fields.name)?;
     let content = read_content(heap, fields)?;
     targets.insert(
@@ -36,19 +35,6 @@ pub fn keep_line<'t>(
             content,
         },
     )?;
-    Ok(())
-}
-
-// Whether the name and the type are right, in this order.
-fn check_words(fields: Fields) -> Result<(), SheetFault>
-    ensures { Words fields.entry.name.now fields.entry.written_type.now result }
-{
-    if let Err(fault) = check_name(fields.name) {
-        return Err(SheetFault::Name(fault));
-    }
-    if let Err(fault) = check_type(fields.written_type) {
-        return Err(SheetFault::WrittenType(fault));
-    }
     Ok(())
 }
 

@@ -4,8 +4,8 @@
 // The hard idea: the definition of a line says what each denial means, and that no earlier check of the line failed.
 #![tactic(auto)]
 
-mod cut;
 mod fault;
+mod fields;
 mod keep;
 mod names;
 mod sheet;

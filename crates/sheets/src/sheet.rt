@@ -4,7 +4,6 @@ ghost use Rattle.sheets.specs.Sheets.{Settles};
 ghost use Rattle.sheets.specs.Targets.{target_of};
 ghost use Rattle.std.specs.Result.{result_map_both};
 
-use crate::cut::cut;
 use crate::fault::SheetFault;
 use crate::keep::keep_line;
 use crate::target::Target;
@@ -31,14 +30,11 @@ fn read_sheet(heap: Global, input: &[u8]) -> Result<Vec<Target<'_>>, SheetFault>
     ensures { ReadSheet input.now (result_map_both (λ v. map target_of v.items) (λ f. f) result) }
 {
     let mut targets = Vec::new(heap);
-    let mut left = Some(input);
-    while let Some(s) = left {
-        let line = cut(s, b'\n');
-        if line.front.is_empty() {
-            break;
-        }
-        keep_line(heap, &mut targets, line.front)?;
-        left = line.rest;
+    for line in input
+        .split(|byte| *byte == b'\n')
+        .take_while(|line| !line.is_empty())
+    {
+        keep_line(heap, &mut targets, line)?;
     }
     Ok(targets)
 }

@@ -1,14 +1,9 @@
-ghost use Rattle.std.specs.Prelude.{◌≡◌, ◌++◌, map, IfSome, IfOk, OnOk};
-ghost use Rattle.sheets.specs.Targets.{target_of, Sound, content_text, target_text, sheet_text};
-ghost use Rattle.std.specs.Option.{option_map};
+ghost use Rattle.std.specs.Prelude.{◌≡◌, ◌++◌, map, IfOk, OnOk};
+ghost use Rattle.sheets.specs.Targets.{target_of, Sound, target_text, sheet_text};
 ghost use Rattle.std.specs.List.{AllByRecursion};
-ghost use Rattle.types.specs.Model.{Ty};
-ghost use Rattle.types.specs.Types.{Of};
-ghost use Rattle.values.specs.Means.{val};
 
 use crate::target::Target;
 use std::alloc::{AllocError, Global};
-use values::Value;
 use writing::display;
 
 // The text of a sheet: a line for each target.
@@ -32,18 +27,9 @@ fn write_target(heap: Global, out: &mut Vec<u8>, target: &Target) -> Result<(), 
     out.push(b'\t')?;
     out.extend_from_slice(target.written_type)?;
     out.push(b'\t')?;
-    write_content(heap, out, &target.content)?;
-    out.push(b'\n')?;
-    Ok(())
-}
-
-// Adds the display of a content of any type; nothing if there is none.
-fn write_content(heap: Global, out: &mut Vec<u8>, content: &Option<Value>) -> Result<(), AllocError>
-    ensures { OnOk result ((y : Ty) → IfSome (option_map val content.now) (Of y) → out.new.items ≡ out.old.items ++ content_text (option_map val content.now)) }
-{
-    if let Some(value) = content {
-        let bytes = display(heap, value)?;
-        out.extend_from_slice(bytes.as_slice())?;
+    if let Some(value) = &target.content {
+        out.extend_from_slice(display(heap, value)?.as_slice())?;
     }
+    out.push(b'\n')?;
     Ok(())
 }

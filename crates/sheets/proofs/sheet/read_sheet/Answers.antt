@@ -1,40 +1,32 @@
-use Rattle.std.proofs.Common.{◌≡◌, map, length, Ok, Err, vec_items, subst, rules}
+use Rattle.std.proofs.Common.{rules, map, vec_items, ◌==◌, [], Ok, subst, tests}
+use Rattle.sheets.proofs.Pieces.{filled, lines_more, lines_end, lines_stop}
 use Rattle.sheets.proofs.sheet.read_sheet.Goals as goal
-use Rattle.sheets.proofs.sheet.read_sheet.Goals.{in-Some+then-is_empty, in_default}
-use Rattle.sheets.proofs.Turns.{left_less, onward_empty, onward_fails, onward_more, onward_ends}
-use Rattle.sheets.specs.Lines.{front}
-use Rattle.sheets.specs.Sheets.{Line}
+use Rattle.sheets.specs.Lines.{split}
+use Rattle.sheets.specs.Sheets.{Lines}
 use Rattle.sheets.specs.Targets.{target_of}
+use Rattle.std.proofs.lemmas.Iterator.Consumers.{YieldsList-at}
+use Rattle.std.proofs.lemmas.Iterator.Search.{YieldsList-from_take_while}
+use Rattle.std.proofs.lemmas.Iterator.Splits.{YieldsList-from_slice_split}
+use Rattle.std.proofs.lemmas.List.{map-append}
 use Rattle.std.proofs.lemmas.Result.{err_from_is_err_and}
+
+pub loop-line-preserved : goal.loop-line-preserved
+loop-line-preserved c =
+    let ts = map target_of (vec_items c.loop-line.targets) in
+    let k = c.in_ok-keep_line.ensures in
+    record { lines = rw map-append (lines_more [] ts _ (map (λ x. x.now) c.loop-line.yielded) c.in-Some.line.now c.loop-line.invariant.lines k.0); whole = k.1 }
 
 pub returns-in_err-keep_line : goal.returns-in_err-keep_line
 returns-in_err-keep_line c =
-    let p = err_from_is_err_and c.from_residual.result c.from_residual.ensures.1 in
-    let ts = map target_of (vec_items c.loop-left.targets) in
-    let s = c.in-Some.s in
-    let n : length (front 10 s.now) ≡ 0 → ⊥ = search rules in
-    let l = subst (λ r. Line ts r (Err c.in_err-keep_line.field-0.0)) c.cut-line.ensures.front c.in_err-keep_line.ensures.0 in
-    rw (p.1, p.2) (onward_fails c.args.input.now ts s c.loop-left.left c.cut-line.result.rest c.in-Some.is c.cut-line.ensures.rest c.loop-left.invariant n _ l)
-
-pub loop-left-smaller : goal.loop-left-smaller
-loop-left-smaller c = left_less c.args.input.now (map target_of (vec_items c.loop-left.targets)) c.in-Some.s c.loop-left.left c.cut-line.result.rest c.in-Some.is c.cut-line.ensures.rest
-
-pub loop-left-preserved : goal.loop-left-preserved
-loop-left-preserved c =
-    let ts = map target_of (vec_items c.loop-left.targets) in
-    let us = map target_of (vec_items c.keep_line.new.targets) in
-    let s = c.in-Some.s in
-    let n : length (front 10 s.now) ≡ 0 → ⊥ = search rules in
-    let k = c.in_ok-keep_line.ensures in
-    let l = subst (λ r. Line ts r (Ok us)) c.cut-line.ensures.front k.0 in
-    onward_more c.args.input.now ts s c.loop-left.left c.cut-line.result.rest c.in-Some.is c.cut-line.ensures.rest c.loop-left.invariant n us l k.1
+    let p = c.split in
+    let w = c.take_while-line-items in
+    let l = lines_stop {s = c.into_iter-line-iterator.result} (split 10 c.args.input.now) (YieldsList-at c.into_iter-line-iterator.ensures.into_iter_gives (YieldsList-from_take_while _ filled (YieldsList-at w.ensures.source (YieldsList-from_slice_split _ (λ b. b == 10) _ p.ensures.rest p.ensures.done p.ensures.closure (λ x b q k. search (rules, tests)))) w.ensures.closure w.ensures.done (λ x b q k. search (rules, tests)))) c.loop-line.yielded c.loop-line.line-iterator c.next.new.self c.loop-line.yielded_by c.in-Some.line (map target_of (vec_items c.loop-line.targets)) c.in_err-keep_line.field-0.0 c.in-Some.ensures.steps c.loop-line.invariant.lines c.in_err-keep_line.ensures.0 in
+    let q = err_from_is_err_and c.from_residual.result c.from_residual.ensures.1 in
+    rw (q.1, q.2) l
 
 pub returns : goal.returns
 returns c =
-    let ts = map target_of (vec_items c.loop-left.targets) in (
-      elim c.match-left.branch [
-        | in-Some+then-is_empty w ↦ (let z : length (front 10 w.in-Some.s.now) ≡ 0 = search rules in onward_empty c.args.input.now ts w.in-Some.s c.loop-left.left w.cut-line.result.rest w.in-Some.is w.cut-line.ensures.rest c.loop-left.invariant z)
-        | in_default w ↦ onward_ends c.args.input.now ts c.loop-left.left w.in_default.is c.loop-left.invariant
-      ],
-      c.loop-left.invariant.whole,
-    )
+    let p = c.split in
+    let w = c.take_while-line-items in
+    let l = lines_end {s = c.into_iter-line-iterator.result} (split 10 c.args.input.now) (YieldsList-at c.into_iter-line-iterator.ensures.into_iter_gives (YieldsList-from_take_while _ filled (YieldsList-at w.ensures.source (YieldsList-from_slice_split _ (λ b. b == 10) _ p.ensures.rest p.ensures.done p.ensures.closure (λ x b q k. search (rules, tests)))) w.ensures.closure w.ensures.done (λ x b q k. search (rules, tests)))) c.loop-line.yielded c.loop-line.line-iterator c.next.new.self c.loop-line.yielded_by c.in-None.ensures.steps in
+    (subst (λ ls. Lines [] ls (Ok (map target_of (vec_items c.loop-line.targets)))) l c.loop-line.invariant.lines, c.loop-line.invariant.whole)

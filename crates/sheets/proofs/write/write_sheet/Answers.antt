@@ -1,18 +1,14 @@
-use Rattle.std.proofs.Common.{map, ap, ◌∙◌}
+use Rattle.std.proofs.Common.{map, sym, ap, ◌∙◌, subst, arith}
 use Rattle.sheets.proofs.write.write_sheet.Goals as goal
-use Rattle.sheets.proofs.Written.{sheet_more, sound_at}
-use Rattle.sheets.specs.Targets.{target_of, sheet_text}
-use Rattle.std.proofs.lemmas.List.{take_all}
+use Rattle.sheets.specs.Targets.{target_of, Sound}
+use Rattle.std.proofs.lemmas.List.{length-map}
+use Rattle.std.proofs.lemmas.List.Elements.{All-from_recursion}
+use Rattle.std.proofs.Math.ListN.{get_or-map}
 
 pub write_target-requires : goal.write_target-requires
-write_target-requires c = sound_at c.args.targets.now c.loop-target.target-index c.target-item.result c.loop-target-test.true c.target-item.is c.requires
-
-pub loop-target-preserved : goal.loop-target-preserved
-loop-target-preserved c =
-    let w = c.in_ok-write_target.ensures in
-    let i = c.loop-target.invariant in
-    let m = sheet_more c.args.targets.now c.loop-target.target-index c.target-item.result c.loop-target-test.true c.target-item.is in
-    cc
-
-pub returns : goal.returns
-returns c = c.loop-target.invariant ∙ ap (λ r. sheet_text (map target_of r)) (take_all c.loop-target.target-index c.args.targets.now c.loop-target-test.false)
+write_target-requires c =
+    let ts = c.args.targets.now in
+    let i = c.loop-target.target-index in
+    let t = c.target-item.result in
+    let n = length-map ts target_of in
+    subst Sound (get_or-map target_of ts i t ∙ ap target_of (sym c.target-item.is)) (All-from_recursion Sound (map target_of ts) c.requires i (target_of t) (omega arith))
