@@ -1,6 +1,11 @@
--- The numbers from one to another, put into a row from the last one down.
-use Rattle.std.proofs.Common.{◌≡◌, ℕ, zero, suc, ◌+◌, ◌-◌, ◌<◌, ◌≤◌, true, not, ℤ, pos, negsuc, ◌+ℤ◌, ◌≤ℤ◌, ◌<ℤ◌, sym, refl, ap, ◌∙◌, subst, arith}
+-- The numbers from one to another, put into a row.
+use Rattle.std.proofs.Common.{◌≡◌, ℕ, zero, suc, ◌+◌, ◌-◌, ◌<◌, ◌≤◌, true, not, List, [], ◌∷◌, ◌++◌, length, map, add-one, ℤ, pos, negsuc, ◌+ℤ◌, ◌≤ℤ◌, ◌<ℤ◌, sym, refl, ap, ◌∙◌, subst, arith}
 use Rattle.types.proofs.Of.{of_list}
+use Rattle.lists.proofs.Gathered.{row_listed}
+use Rattle.values.specs.declared.value.Value.{Value, Number}
+use Rattle.values.specs.Means.{val, vals}
+use Rattle.value_model.specs.Rows.{listed}
+use Rattle.std.proofs.lemmas.List.{map-append, length_push}
 use Rattle.lists.specs.Ranges.{numbers, Count, Numbered}
 use Rattle.std.proofs.lemmas.Int.{ints}
 use Rattle.std.proofs.lemmas.Bool.{and_from, le-leb, leb-true}
@@ -8,7 +13,7 @@ use Rattle.std.proofs.lemmas.Bool.Decides.{nat_tests}
 use Rattle.std.specs.Ordering.{is_gt, int_cmp}
 use Rattle.types.specs.Model.{number, lists}
 use Rattle.types.specs.Types.{bounded, leads, ascending, all_formed, Of}
-use Rattle.value_model.specs.Model.{Vals, num, none, more, list}
+use Rattle.value_model.specs.Model.{num, list}
 use Rattle.value_model.specs.Sizes.{sizes}
 
 -- the count of the numbers from a up to the one before b, where b is above a by more than m
@@ -18,25 +23,25 @@ longer m (pos a) (negsuc b) h = (0, omega (arith, ints), omega (arith, ints))
 longer m (negsuc a) (pos b) h = (b + suc a, omega (arith, ints), omega (arith, ints))
 longer m (negsuc a) (negsuc b) h = (a - b, omega (arith, ints), omega (arith, ints))
 
--- the row has the numbers from next up to the one before end
-pub record Downward (start end next : ℤ) (row : Vals) : Type 0 where
-  pub above : start ≤ℤ next
-  pub done : ℕ
-  pub reaches : end ≡ next +ℤ pos done
-  pub value : row ≡ numbers next done
+-- the number after the last of a row of numbers
+numbers_more : (a b : ℤ) (n : ℕ) → b ≡ a +ℤ pos n → listed (numbers a n) ++ num b ∷ [] ≡ listed (numbers a (suc n))
+numbers_more a b zero e = let i : b ≡ a = omega (arith, ints) in ap (λ c. num c ∷ []) i
+numbers_more a b (suc n) e = ap (λ vs. num a ∷ vs) (numbers_more (a +ℤ pos 1) b n (omega (arith, ints)))
 
-pub downward_none : (s e n : ℤ) → s ≤ℤ n → e ≡ n → Downward s e n none
-downward_none s e n l i = record { above = l; done = 0; reaches = omega (arith, ints); value = refl }
+-- the row has the numbers from start up to the one before next, which is at most end
+pub record Upward (start end next : ℤ) (row : List Value) : Type 0 where
+  pub within : next ≤ℤ end
+  pub reaches : next ≡ start +ℤ pos (length row)
+  pub value : map val row ≡ listed (numbers start (length row))
 
-pub downward_more : (s e n m : ℤ) (r q : Vals) → Downward s e n r → s <ℤ n → n ≡ m +ℤ pos 1 → q ≡ more (num m) r → Downward s e m q
-downward_more s e n m r q h l i j =
-    let d = h.done in
-    let f : e ≡ n +ℤ pos d = h.reaches in
+pub upward_more : (s e n m k : ℤ) (vs ws : List Value) → Upward s e n vs → n <ℤ e → m ≡ n +ℤ pos 1 → k ≡ n → ws ≡ vs ++ Number k ∷ [] → Upward s e m ws
+upward_more s e n m k vs ws h b i q j =
+    let l : length ws ≡ suc (length vs) = ap length j ∙ length_push vs (Number k) ∙ add-one (length vs) in
+    let r : n ≡ s +ℤ pos (length vs) = h.reaches in
     record {
-      above = omega (arith, ints);
-      done = suc d;
+      within = omega (arith, ints);
       reaches = omega (arith, ints);
-      value = j ∙ ap (more (num m)) (h.value ∙ ap (λ k. numbers k d) i);
+      value = ap (map val) j ∙ map-append val vs (Number k ∷ []) ∙ ap (λ us. us ++ num k ∷ []) h.value ∙ numbers_more s k (length vs) (q ∙ r) ∙ ap (λ c. listed (numbers s c)) (sym l);
     }
 
 -- ---- the list is of its type
@@ -74,15 +79,15 @@ numbers_of a b n e l f g =
     let s = numbers_sizes a n in
     of_list number (numbers a n) (numbers_ascending a n) (numbers_formed a n i.0 h) (omega arith)
 
-pub numbered : (s e n a b : ℤ) (q : Vals) (h : Downward s e n q) → n ≡ a → e ≡ b +ℤ pos 1 → h.done ≤ 255 → Numbered a b q
-numbered s e n a b q h i j l =
-    let f : e ≡ n +ℤ pos h.done = h.reaches in
-    let k : Count a b h.done = omega (arith, ints) in
-    let v : q ≡ numbers a h.done = h.value ∙ ap (λ m. numbers m h.done) i in
+pub numbered : (s e n a b : ℤ) (vs : List Value) → Upward s e n vs → s ≡ a → n ≡ b +ℤ pos 1 → length vs ≤ 255 → Numbered a b (vals vs)
+numbered s e n a b vs h i j l =
+    let r : n ≡ s +ℤ pos (length vs) = h.reaches in
+    let k : Count a b (length vs) = omega (arith, ints) in
+    let v : vals vs ≡ numbers a (length vs) = sym (row_listed _ _ (sym h.value)) ∙ ap (λ m. numbers m (length vs)) i in
     record {
-      count = h.done;
+      count = length vs;
       counts = k;
       few = l;
       value = v;
-      typed = λ f g. subst (λ r. Of (lists number) (list r)) (sym v) (numbers_of a b h.done k l f g);
+      typed = λ f g. subst (λ r. Of (lists number) (list r)) (sym v) (numbers_of a b (length vs) k l f g);
     }

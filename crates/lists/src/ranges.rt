@@ -4,11 +4,10 @@ ghost use Rattle.lists.specs.Ranges.{Numbered, Unranged};
 ghost use Rattle.values.specs.Means.{vals};
 
 use std::alloc::{AllocError, AllocFailed, Global};
-use std::rc::Rc;
-use values::{Link, Row, SIZE_LIMIT, Value};
+use values::{SIZE_LIMIT, Value};
 
 // Why there is no list of the numbers from one to another.
-#[derive(Debug, Drop)]
+#[derive(Clone, Copy, Debug, Drop, PartialEq, Eq)]
 pub enum RangeFault {
     // The first number is above the last by more than 1.
     Backward,
@@ -38,8 +37,8 @@ impl<T: Drop> From<AllocFailed<T>> for RangeFault {
 const MOST_NUMBERS: i64 = SIZE_LIMIT as i64 - 1;
 
 // The list of the numbers from the first to the last; empty if the first comes right after the last.
-pub fn range(heap: Global, first: i32, last: i32) -> Result<Row, RangeFault>
-    ensures { MatchResult result (λ q. Numbered first last (vals q)) (Unranged first last) }
+pub fn range(heap: Global, first: i32, last: i32) -> Result<Vec<Value>, RangeFault>
+    ensures { MatchResult result (λ q. Numbered first last (vals q.items)) (Unranged first last) }
 {
     let start = i64::from(first);
     let end = i64::from(last) + 1;
@@ -49,12 +48,9 @@ pub fn range(heap: Global, first: i32, last: i32) -> Result<Row, RangeFault>
     if end - start > MOST_NUMBERS {
         return Err(RangeFault::TooLong);
     }
-    let mut row = Row::End;
-    let mut next = end;
-    while next > start {
-        next -= 1;
-        let head = Value::Number(next as i32);
-        row = Row::Entry(Rc::new(heap, Link { head, rest: row })?);
+    let mut list = Vec::new(heap);
+    for number in start..end {
+        list.push(Value::Number(number as i32))?;
     }
-    Ok(row)
+    Ok(list)
 }
