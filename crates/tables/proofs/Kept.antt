@@ -6,7 +6,7 @@ use Rattle.search.specs.Search.{occurs}
 use Rattle.std.proofs.lemmas.Bool.{and_parts, and_from, le-leb, leb-true}
 use Rattle.std.specs.Ordering.{is_eq, is_lt}
 use Rattle.tables.proofs.Orders.{by_key_order, by_entry_order, Fitting, changed_ascending, past_fitting, put_fitting, ascending_by_key, keyed_alike, entered_past}
-use Rattle.tables.proofs.Places.{changed_related}
+use Rattle.tables.proofs.Places.{changed_related, replaced, without}
 use Rattle.tables.specs.Entries.{Entry, entry, entries_of, by_key, by_entry, keyed}
 use Rattle.tables.specs.Laws.{has_key, NoKey, OthersAlike, Selection, Association, Deletion, KeyList, ascending_in, Addition}
 use Rattle.tables.specs.Tables.{selected, changed, past, associated, entered, added}
@@ -148,10 +148,6 @@ associated_here k a (pair l b p) = go (is_lt (cmp l k)) refl (associated_here k 
     go true h i = ap (λ s. cond s (selected k (associated k a p)) (cond (is_eq (cmp l k)) (Some b) None)) h ∙ i
     go false h i = selected_first k a (past by_key (keyed k) (pair l b p))
 
--- what stands from the place of k on
-abbrev replaced : Val → Val → Pairs → Pairs
-replaced k a r = pair k a (past by_key (keyed k) r)
-
 replaced_fits : (k a : Val) → Fitting by_key by_key_order (keyed k) (replaced k a)
 replaced_fits k a = put_fitting by_key by_key_order (keyed k) k a (keyed_alike k a)
 
@@ -169,9 +165,6 @@ association k a p q e = subst (Association k a p) (sym e) (record {
 })
 
 -- ---- delete
-
-abbrev without : Val → Pairs → Pairs
-without k p = changed by_key (keyed k) (past by_key (keyed k)) p
 
 without_keys : (k : Val) (p : Pairs) → ascending_keys p ≡ true → ascending_keys (without k p) ≡ true
 without_keys k p = changed_keys k (past by_key (keyed k)) (past_fitting by_key by_key_order (keyed k)) p

@@ -4,10 +4,16 @@ use Rattle.std.specs.declared.cmp.Ordering.{Ordering}
 use Rattle.std.specs.Ordering.{ordering_then}
 use Rattle.value_model.specs.Model.{Val, Pairs, empty, pair}
 use Rattle.value_model.specs.Order.{cmp}
+use Rattle.values.specs.declared.value.Entry as code
+use Rattle.values.specs.Means.{val}
 
 -- a key with its associate
 pub data Entry : Type 0 where
   entry : Val → Val → Entry
+
+-- what an entry of the code means
+abbrev pub entry_of : code.Entry → Entry
+entry_of e = entry (val e.key) (val e.associate)
 
 abbrev pub entries_of : Pairs → List Entry
 entries_of empty = []

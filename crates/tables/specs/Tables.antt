@@ -1,5 +1,5 @@
 -- Operations on tables. The place of an entry in an order is after the entries at the front that are below it.
-use Rattle.std.specs.Prelude.{ℕ, ◌-◌, cond, Some, None, Option, ◌==◌}
+use Rattle.std.specs.Prelude.{cond, Some, None, Option}
 use Rattle.std.specs.declared.cmp.Ordering.{Ordering}
 use Rattle.search.specs.Search.{stands}
 use Rattle.std.specs.Ordering.{is_eq, is_lt}
@@ -38,13 +38,3 @@ entered k a (pair l b p) = cond (is_eq (by_entry (entry l b) (entry k a))) (pair
 -- the entries, and that of k and a, once
 abbrev pub added : Val → Val → Pairs → Pairs
 added k a p = changed by_entry (entry k a) (entered k a) p
-
--- the first n entries, and then others
-abbrev pub spliced : ℕ → Pairs → Pairs → Pairs
-spliced n empty t = t
-spliced n (pair l b p) t = cond (n == 0) t (pair l b (spliced (n - 1) p t))
-
--- all but the first entry
-abbrev pub later : Pairs → Pairs
-later empty = empty
-later (pair l b p) = p

@@ -1,37 +1,18 @@
-use Rattle.std.proofs.Common.{◌≡◌, cond, Some, None, sym, ap, ◌∙◌, rules}
-use Rattle.search.specs.Search.{rank}
-use Rattle.tables.proofs.edits.delete.Goals as goal
+use Rattle.std.proofs.Common.{true, Some, Err, sym, ap, ◌∙◌}
 use Rattle.tables.proofs.Kept.{deletion, no_key}
-use Rattle.tables.proofs.Places.{changed_spliced, past_standing, selected_standing, first_associate}
-use Rattle.tables.specs.Entries.{by_key, keyed, entries_of}
-use Rattle.tables.specs.Tables.{changed, past, spliced}
+use Rattle.tables.proofs.Places.{without_found, deleted_located, selected_located}
+use Rattle.tables.proofs.edits.delete.Goals as goal
+use Rattle.values.proofs.Shared.{entry_clones}
 use Rattle.values.specs.Means.{val, pairs}
 
-pub returns-then-not-place : goal.returns-then-not-place
-returns-then-not-place c =
-    let k = val c.args.key.now in
-    let p = pairs c.args.entries.now in
-    let q = pairs c.find-place.new.walk.entries.now in
-    let f = c.find-place.ensures.place in
-    let s = selected_standing k p q c.find-place.result.found f.onward f.here in
-    let b = c.if-not-place.true in
-    record {
-      value = ap (λ t. cond t (Some (changed by_key (keyed k) (past by_key (keyed k)) p)) None) (sym b ∙ f.here);
-      law = no_key k p (s ∙ ap (λ t. cond t (first_associate q) None) b);
-    }
+pub returns-in_ok-table-in-Ok : goal.returns-in_ok-table-in-Ok
+returns-in_ok-table-in-Ok c =
+    let s = entry_clones _ _ c.in_ok-table-in-Ok.ensures.items in
+    let e = ap pairs c.remove.ensures.items ∙ without_found _ _ s c.in-Ok.place true (val c.args.key.now) c.in-Ok.ensures.place in
+    record { value = ap Some e ∙ sym (deleted_located _ _ _ _ c.in-Ok.ensures.place); law = deletion _ _ _ e }
 
-pub returns : goal.returns
-returns c =
-    let k = val c.args.key.now in
-    let p = pairs c.args.entries.now in
-    let q = pairs c.find-place.new.walk.entries.now in
-    let f = c.find-place.ensures.place in
-    let n = rank by_key (keyed k) (entries_of p) in
-    let i = changed_spliced by_key (keyed k) (past by_key (keyed k)) p q f.onward in
-    let b = past_standing by_key (keyed k) p q c.find-place.result.found f.onward f.here in
-    let t : pairs c.in_ok-tail.tail ≡ past by_key (keyed k) q = search (rules, b) in
-    let e = c.in_ok-splice.ensures n f.place ∙ ap (spliced n p) t ∙ sym i in
-    record {
-      value = ap Some e ∙ ap (λ t. cond t (Some (changed by_key (keyed k) (past by_key (keyed k)) p)) None) (sym c.if-not-place.false ∙ f.here);
-      law = deletion k p _ e;
-    }
+pub returns-in-Err : goal.returns-in-Err
+returns-in-Err c = record {
+  value = sym (deleted_located _ _ _ _ c.in-Err.ensures.place);
+  law = no_key (val c.args.key.now) (pairs c.args.entries.now) (selected_located (val c.args.key.now) c.args.entries.now (Err c.in-Err.field-0) c.in-Err.ensures.place);
+}
