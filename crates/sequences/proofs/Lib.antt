@@ -1,1 +1,2 @@
 pub mod Typed
+pub mod Rows

@@ -1,5 +1,5 @@
 -- The items of a value of a type: their types, and how many there are.
-use Rattle.std.proofs.Common.{◌≡◌, ℕ, ◌-◌, ◌^◌, ◌≤◌, min, true, ◌&&◌, leb, List, [], ◌∷◌, map, length, pos, IfSome, Option, sym, refl, subst, arith}
+use Rattle.std.proofs.Common.{◌≡◌, ℕ, ◌-◌, ◌^◌, ◌≤◌, min, true, ◌&&◌, leb, List, [], ◌∷◌, map, length, pos, Some, IfSome, Option, sym, refl, subst, arith}
 use Rattle.sequences.specs.Laws.{item_type, AllOf, ItemsTyped, Counted}
 use Rattle.sequences.specs.Sequences.{letter, associates, items_of, counted}
 use Rattle.std.proofs.lemmas.List.{length-map}
@@ -73,5 +73,5 @@ counted_few (comp r) l = tt
 counted_few (list r) l = let h = entries_few r in few (length (listed r)) (omega arith)
 counted_few (table p) l = let h = associates_few p in few (length (associates p)) (omega arith)
 
-pub few_counted : (v : Val) (o : Option ℕ) → o ≡ counted v → Counted v o
-few_counted v o e = subst (Counted v) (sym e) (λ y h. counted_few v (of_parts y v h).0)
+pub few_counted : (v : Val) (n : ℕ) → Some n ≡ counted v → Counted v (Some n)
+few_counted v n e = subst (Counted v) (sym e) (λ y h. counted_few v (of_parts y v h).0)

@@ -1,10 +1,9 @@
-ghost use Rattle.std.specs.Prelude.{◌≡◌, ◌-◌, ◌^◌, min, length};
-ghost use Rattle.sequences.specs.Sequences.{counted, associates};
+ghost use Rattle.std.specs.Prelude.{◌≡◌};
+ghost use Rattle.sequences.specs.Sequences.{counted};
 ghost use Rattle.sequences.specs.Laws.{Counted};
-ghost use Rattle.values.specs.Means.{val, vals, pairs};
-ghost use Rattle.value_model.specs.Rows.{listed};
+ghost use Rattle.values.specs.Means.{val};
 
-use values::{Entries, Row, Value};
+use values::Value;
 
 // The number of characters of a text, or of entries of a list or table, as far as a word counts; nothing for another value.
 pub fn count(value: &Value) -> Option<usize>
@@ -14,25 +13,7 @@ pub fn count(value: &Value) -> Option<usize>
     match value {
         Value::Number(_) | Value::Compound(_) => None,
         Value::Text(codes) => Some(codes.len()),
-        Value::List(row) => Some(count_row(row)),
-        Value::Table(entries) => Some(count_entries(entries)),
-    }
-}
-
-fn count_row(row: &Row) -> usize
-    ensures { result ≡ min (length (listed (vals row.now))) (2 ^ 64 - 1) }
-{
-    match row {
-        Row::End => 0,
-        Row::Entry(link) => count_row(&link.rest).saturating_add(1),
-    }
-}
-
-fn count_entries(entries: &Entries) -> usize
-    ensures { result ≡ min (length (associates (pairs entries.now))) (2 ^ 64 - 1) }
-{
-    match entries {
-        Entries::Empty => 0,
-        Entries::Pair(pair) => count_entries(&pair.rest).saturating_add(1),
+        Value::List(row) => Some(row.len()),
+        Value::Table(entries) => Some(entries.len()),
     }
 }

@@ -1,5 +1,5 @@
-ghost use Rattle.std.specs.Prelude.{◌≡◌, IfOk, MatchResult};
-ghost use Rattle.sequences.specs.Items.{left, Taken};
+ghost use Rattle.std.specs.Prelude.{◌≡◌, ◌-◌, ◌^◌, ◌<◌, IfOk, IfSome, MatchResult, slice_get};
+ghost use Rattle.sequences.specs.Items.{items_in, left, Taken};
 ghost use Rattle.sequences.specs.Laws.{ItemsTyped};
 ghost use Rattle.sequences.specs.Sequences.{items_of, letter};
 ghost use Rattle.std.specs.Option.{option_map};
@@ -7,15 +7,13 @@ ghost use Rattle.values.specs.Means.{val};
 
 use std::alloc::{AllocError, Global};
 use std::rc::Rc;
-use values::{Entries, Row, Value};
+use values::Value;
 
-// The items of a value that are left, to be taken in turn: the characters of a text from an index on, each as a text; the
-// entries of a list; the associates of a table.
+// The items of a value that are left, to be taken in turn: all but the first `taken`.
 #[derive(Drop)]
-pub enum Items {
-    Characters(Rc<Vec<u8>>, usize),
-    Entries(Row),
-    Associates(Entries),
+pub struct Items {
+    value: Value,
+    taken: usize,
 }
 
 impl Items {
@@ -26,9 +24,10 @@ impl Items {
     {
         match value {
             Value::Number(_) | Value::Compound(_) => Ok(None),
-            Value::Text(codes) => Ok(Some(Items::Characters(codes.clone()?, 0))),
-            Value::List(row) => Ok(Some(Items::Entries(row.share()?))),
-            Value::Table(entries) => Ok(Some(Items::Associates(entries.share()?))),
+            Value::Text(_) | Value::List(_) | Value::Table(_) => Ok(Some(Items {
+                value: value.clone()?,
+                taken: 0,
+            })),
         }
     }
 
@@ -36,35 +35,24 @@ impl Items {
     pub fn next(&mut self, heap: Global) -> Result<Option<Value>, AllocError>
         ensures { MatchResult result (λ o. Taken (left self.old) (option_map val o) (left self.new)) (λ _. left self.new ≡ left self.old) }
     {
-        match self {
-            Items::Characters(codes, index) => {
-                if *index < codes.len() {
-                    let item = letter(heap, codes[*index])?;
-                    *index += 1;
-                    Ok(Some(item))
-                } else {
-                    Ok(None)
-                }
-            }
-            Items::Entries(row) => match row {
-                Row::End => Ok(None),
-                Row::Entry(link) => {
-                    let item = link.head.copy()?;
-                    let rest = link.rest.share()?;
-                    *row = rest;
-                    Ok(Some(item))
-                }
-            },
-            Items::Associates(entries) => match entries {
-                Entries::Empty => Ok(None),
-                Entries::Pair(pair) => {
-                    let item = pair.associate.copy()?;
-                    let rest = pair.rest.share()?;
-                    *entries = rest;
-                    Ok(Some(item))
-                }
-            },
-        }
+        let Some(item) = item_at(heap, &self.value, self.taken)? else {
+            return Ok(None);
+        };
+        self.taken += 1;
+        Ok(Some(item))
+    }
+}
+
+// The item at an index, counted from 0; nothing if there is none.
+fn item_at(heap: Global, value: &Value, index: usize) -> Result<Option<Value>, AllocError>
+    ensures item { IfOk result (λ o. option_map val o ≡ slice_get (items_in (val value.now)) index) }
+    ensures low { IfOk result (λ o. IfSome o (λ _. index < 2 ^ 64 - 1)) }
+{
+    match value {
+        Value::Number(_) | Value::Compound(_) => Ok(None),
+        Value::Text(codes) => codes.get(index).map(|code| letter(heap, *code)).transpose(),
+        Value::List(row) => row.get(index).cloned(),
+        Value::Table(entries) => entries.get(index).map(|entry| &entry.associate).cloned(),
     }
 }
 

@@ -1,22 +1,17 @@
-use Rattle.std.proofs.Common.{◌≡◌, Some, vec_items, rc_value, rules}
-use Rattle.sequences.proofs.counts.count.Goals as goal
-use Rattle.sequences.proofs.Typed.{few_counted}
-use Rattle.sequences.specs.Sequences.{letter, counted}
+use Rattle.std.proofs.Common.{rules}
 use Rattle.std.proofs.lemmas.List.{length-map}
-use Rattle.values.specs.Means.{val}
+use Rattle.sequences.proofs.Rows.{list_items, table_items}
+use Rattle.sequences.proofs.Typed.{few_counted}
+use Rattle.sequences.proofs.counts.count.Goals as goal
 
-pub returns-in-Text : goal.returns-in-Text
-returns-in-Text c =
-    let l = length-map (vec_items (rc_value c.in-Text.codes)) letter in
-    let e : Some c.len.result ≡ counted (val c.args.value.now) = search (rules, l) in
-    record { value = e; law = few_counted _ _ e }
+pub returns-in-List-clause-value : goal.returns-in-List-clause-value
+returns-in-List-clause-value c = search (rules, list_items, length-map)
 
-pub returns-in-List : goal.returns-in-List
-returns-in-List c =
-    let e : Some c.count_row.result ≡ counted (val c.args.value.now) = search rules in
-    record { value = e; law = few_counted _ _ e }
+pub returns-in-List-clause-law : goal.returns-in-List-clause-law
+returns-in-List-clause-law c = few_counted _ _ (search (rules, list_items, length-map))
 
-pub returns-in-Table : goal.returns-in-Table
-returns-in-Table c =
-    let e : Some c.count_entries.result ≡ counted (val c.args.value.now) = search rules in
-    record { value = e; law = few_counted _ _ e }
+pub returns-in-Table-clause-value : goal.returns-in-Table-clause-value
+returns-in-Table-clause-value c = search (rules, table_items, length-map)
+
+pub returns-in-Table-clause-law : goal.returns-in-Table-clause-law
+returns-in-Table-clause-law c = few_counted _ _ (search (rules, table_items, length-map))
