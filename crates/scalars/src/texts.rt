@@ -1,4 +1,4 @@
-ghost use Rattle.std.specs.Prelude.{◌≡◌, ◌++◌, IfSome, IfOk};
+ghost use Rattle.std.specs.Prelude.{◌≡◌, ◌++◌, IfSome, IfOk, option_copied};
 ghost use Rattle.scalars.specs.Texts.{suffix, prefix, KeepsBoth, KeepsPart};
 ghost use Rattle.std.specs.Option.{option_map};
 ghost use Rattle.values.specs.Means.{val};
@@ -24,15 +24,7 @@ pub fn from(heap: Global, codes: &[u8], first: i32) -> Result<Option<Value>, All
     ensures value { IfOk result (λ o. option_map val o ≡ option_map text (suffix codes.now first)) }
     ensures law { IfOk result (λ o. IfSome o (λ v. KeepsPart codes.now (val v))) }
 {
-    if first < 1 {
-        return Ok(None);
-    }
-    let passed = (first - 1) as usize;
-    if passed > codes.len() {
-        return Ok(None);
-    }
-    let (_, rest) = codes.split_at(passed);
-    Ok(Some(text_of(heap, Vec::from_slice(heap, rest)?)?))
+    part_text(heap, suffix(codes, first))
 }
 
 // The first `count` characters of the text; nothing unless it has as many.
@@ -40,15 +32,29 @@ pub fn upto(heap: Global, codes: &[u8], count: i32) -> Result<Option<Value>, All
     ensures value { IfOk result (λ o. option_map val o ≡ option_map text (prefix codes.now count)) }
     ensures law { IfOk result (λ o. IfSome o (λ v. KeepsPart codes.now (val v))) }
 {
-    if count < 0 {
-        return Ok(None);
-    }
-    let kept = count as usize;
-    if kept > codes.len() {
-        return Ok(None);
-    }
-    let (front, _) = codes.split_at(kept);
-    Ok(Some(text_of(heap, Vec::from_slice(heap, front)?)?))
+    part_text(heap, prefix(codes, count))
+}
+
+fn suffix(codes: &[u8], first: i32) -> Option<&[u8]>
+    ensures { option_copied result ≡ suffix codes.now first }
+{
+    let passed = usize::try_from(first).ok()?.checked_sub(1)?;
+    codes.get(passed..)
+}
+
+fn prefix(codes: &[u8], count: i32) -> Option<&[u8]>
+    ensures { option_copied result ≡ prefix codes.now count }
+{
+    let kept = usize::try_from(count).ok()?;
+    codes.get(..kept)
+}
+
+// The text of a part, if there is one.
+fn part_text(heap: Global, part: Option<&[u8]>) -> Result<Option<Value>, AllocError>
+    ensures { IfOk result (λ o. option_map val o ≡ option_map text (option_copied part.entry)) }
+{
+    part.map(|codes| text_of(heap, Vec::from_slice(heap, codes)?))
+        .transpose()
 }
 
 fn text_of(heap: Global, codes: Vec<u8>) -> Result<Value, AllocError>
