@@ -1,5 +1,5 @@
 -- Types built from their text.
-use Rattle.std.proofs.Common.{◌≡◌, ℕ, ◌-◌, true, ◌&&◌, List, [], ◌++◌, drop, sym, refl, ap, ◌∙◌, append_assoc, append-nil, arith}
+use Rattle.std.proofs.Common.{◌≡◌, ℕ, ◌+◌, true, ◌&&◌, List, [], ◌++◌, drop, sym, refl, ap, ◌∙◌, append_assoc, append-nil, arith}
 use Rattle.reading.proofs.Whole.{same_head_self}
 use Rattle.std.proofs.lemmas.Bool.{and_parts, and_from}
 use Rattle.type_notation.proofs.Prefixes.{shape_of, parts_of, shape_parts, shape_counts, shape_sound, shape_same}
@@ -51,31 +51,34 @@ builds_wrong s at end' t back h u rest r e =
     let z = h.stop back (same_head_self back) 1 rest (record { types = also u end; counts = refl; right = and_from (sound u) true r refl; shows = sym h.splits ∙ e ∙ ap (λ x. x ++ rest) (sym (append-nil (type_text u))) }) in
     absurd (omega arith)
 
-module _ (s : List ℕ) (at middle : ℕ) where
+module _ (s : List ℕ) (at middle : ℕ) (h : Shape) (shown : drop at s ≡ shape_text h ++ drop middle s) where
+  under_shape : (g : Shape) → h ≡ g → (u : Ty) (rest : List ℕ) → sound u ≡ true → drop at s ≡ type_text u ++ rest → Under s g middle u rest
+  under_shape g i = under s at g middle (shown ∙ ap (λ x. shape_text x ++ drop middle s) i)
+
   -- a type with none under it
-  builds_leaf : (h : Shape) (t : Ty) → ((ts : Tys) → remade h ts ≡ t) → arity h ≡ 0 → drop at s ≡ shape_text h ++ drop middle s → Builds s at t middle
-  builds_leaf h t m z e u rest r f =
-      let p = under s at h middle e u rest r f in
+  builds_leaf : (g : Shape) (t : Ty) → ((ts : Tys) → remade g ts ≡ t) → arity g ≡ 0 → h ≡ g → Builds s at t middle
+  builds_leaf g t m z i u rest r f =
+      let p = under_shape g i u rest r f in
       (sym (m (parts_of u)) ∙ p.shaped, none (parts_of u) (p.counts ∙ z) p.shows)
     where
       none : (ts : Tys) → count ts ≡ 0 → drop middle s ≡ type_texts ts ++ rest → drop middle s ≡ rest
       none end c e = e
       none (also t ts) c e = absurd (omega arith)
 
-  pub builds_number : drop at s ≡ shape_text Number ++ drop middle s → Builds s at number middle
-  builds_number e = builds_leaf Number number (λ _. refl) refl e
+  pub builds_number : h ≡ Number → Builds s at number middle
+  builds_number = builds_leaf Number number (λ _. refl) refl
 
-  pub builds_text : drop at s ≡ shape_text Text ++ drop middle s → Builds s at texts middle
-  builds_text e = builds_leaf Text texts (λ _. refl) refl e
+  pub builds_text : h ≡ Text → Builds s at texts middle
+  builds_text = builds_leaf Text texts (λ _. refl) refl
 
-  pub builds_compound : (n : ℕ) (ts : Tys) (end' : ℕ) → drop at s ≡ shape_text (Compound n) ++ drop middle s → BuildsAll s middle n ts end' → Builds s at (comps ts) end'
-  builds_compound n ts end' e b u rest r f =
-      let p = under s at (Compound n) middle e u rest r f in
+  pub builds_compound : (n : ℕ) (ts : Tys) (end' : ℕ) → h ≡ Compound n → BuildsAll s middle n ts end' → Builds s at (comps ts) end'
+  builds_compound n ts end' i b u rest r f =
+      let p = under_shape (Compound n) i u rest r f in
       let q = b (parts_of u) rest p.counts p.right p.shows in
       (ap comps q.0 ∙ p.shaped, q.1)
 
-  pub builds_list : (t : Ty) (end' : ℕ) → drop at s ≡ shape_text Entries ++ drop middle s → Builds s middle t end' → Builds s at (lists t) end'
-  builds_list t end' e b u rest r f = let p = under s at Entries middle e u rest r f in go (parts_of u) p.shaped p.counts p.right p.shows
+  pub builds_list : (t : Ty) (end' : ℕ) → h ≡ Entries → Builds s middle t end' → Builds s at (lists t) end'
+  builds_list t end' i b u rest r f = let p = under_shape Entries i u rest r f in go (parts_of u) p.shaped p.counts p.right p.shows
     where
       go : (ts : Tys) → remade Entries ts ≡ u → count ts ≡ 1 → sounds ts ≡ true → drop middle s ≡ type_texts ts ++ rest → (lists t ≡ u) × (drop end' s ≡ rest)
       go end m c r e = absurd (omega arith)
@@ -84,8 +87,8 @@ module _ (s : List ℕ) (at middle : ℕ) where
           (ap lists q.0 ∙ m, q.1)
       go (also v (also w ts)) m c r e = absurd (omega arith)
 
-  pub builds_table : (k a : Ty) (next end' : ℕ) → drop at s ≡ shape_text Table ++ drop middle s → Builds s middle k next → Builds s next a end' → Builds s at (tables k a) end'
-  builds_table k a next end' e b d u rest r f = let p = under s at Table middle e u rest r f in go (parts_of u) p.shaped p.counts p.right p.shows
+  pub builds_table : (k a : Ty) (next end' : ℕ) → h ≡ Table → Builds s middle k next → Builds s next a end' → Builds s at (tables k a) end'
+  builds_table k a next end' i b d u rest r f = let p = under_shape Table i u rest r f in go (parts_of u) p.shaped p.counts p.right p.shows
     where
       go : (ts : Tys) → remade Table ts ≡ u → count ts ≡ 2 → sounds ts ≡ true → drop middle s ≡ type_texts ts ++ rest → (tables k a ≡ u) × (drop end' s ≡ rest)
       go end m c r e = absurd (omega arith)
@@ -105,9 +108,9 @@ pub builds_end : (s : List ℕ) (at n : ℕ) → n ≡ 0 → BuildsAll s at n en
 builds_end s at n z end rest c r e = (refl, e)
 builds_end s at n z (also t ts) rest c r e = absurd (omega arith)
 
-pub builds_also : (s : List ℕ) (at n next end' : ℕ) (t : Ty) (ts : Tys) → (n ≡ 0 → ⊥) → Builds s at t next → BuildsAll s next (n - 1) ts end' → BuildsAll s at n (also t ts) end'
-builds_also s at n next end' t ts some b d end rest c r e = absurd (some (sym c))
-builds_also s at n next end' t ts some b d (also u us) rest c r e =
+pub builds_also : (s : List ℕ) (at n m next end' : ℕ) (t : Ty) (ts : Tys) → n ≡ m + 1 → Builds s at t next → BuildsAll s next m ts end' → BuildsAll s at n (also t ts) end'
+builds_also s at n m next end' t ts k b d end rest c r e = absurd (omega arith)
+builds_also s at n m next end' t ts k b d (also u us) rest c r e =
     let i = and_parts (sound u) (sounds us) r in
     let q = b u (type_texts us ++ rest) i.0 (e ∙ append_assoc (type_text u) (type_texts us) rest) in
     let j = d us rest (omega arith) i.1 q.1 in

@@ -1,11 +1,13 @@
 -- The steps of the reader of types: how many types are still due, and where none goes on.
-use Rattle.std.proofs.Common.{◌≡◌, ℕ, zero, suc, ◌+◌, ◌-◌, ◌*◌, ◌<◌, ◌≤◌, true, ◌⊎◌, List, [], ◌∷◌, ◌++◌, length, drop, sym, refl, ap, ◌∙◌, subst, inl, inr, append_assoc, append-nil, arith, length-drop}
+use Rattle.std.proofs.Common.{◌≡◌, ℕ, zero, suc, ◌+◌, ◌-◌, ◌*◌, ◌<◌, ◌≤◌, true, ◌⊎◌, List, [], ◌∷◌, ◌++◌, length, drop, Some, None, Ok, Err, Option, sym, refl, ap, ◌∙◌, subst, inl, inr, append_assoc, append-nil, arith, length-drop}
+use Rattle.reading.specs.Bytes.{Byte}
 use Rattle.reading.specs.Reading.{SameHead}
 use Rattle.std.proofs.lemmas.Bool.{and_parts, and_from}
+use Rattle.std.specs.Option.{ok_or}
 use Rattle.type_notation.proofs.Prefixes.{types_in, types_out, first_of}
 use Rattle.type_notation.specs.declared.shape.Shape.{Shape}
 use Rattle.type_notation.specs.declared.shape.Shape.TheVariants.{Number, Text, Compound, List as Entries, Table}
-use Rattle.type_notation.specs.Shapes.{arity, shape_text, Shapely, Types, NoShape, GotType, NoType}
+use Rattle.type_notation.specs.Shapes.{arity, shape_text, Shapely, Types, NoShape, CountAt, ShapeAt, GotType, NoType}
 use Rattle.types.specs.Texts.{count, type_text, type_texts, sound, sounds}
 use Rattle.types.specs.Model.{Ty, Tys, number, end, also}
 
@@ -84,6 +86,19 @@ shape_count X Z e never = record {
     go R s Entries Y k e = let z : ◌≡◌ {A = ℕ} 99 108 = cc in omega arith
     go R s Table Y k e = let z : ◌≡◌ {A = ℕ} 99 98 = cc in omega arith
 
+-- what `?` passes on, and where it stops: no byte stands, or no number of fields
+pub byte_some : (s : List ℕ) (at b : ℕ) (o : Option ℕ) → Byte s at o → Ok b ≡ ok_or o at → Byte s at (Some b)
+byte_some s at b None h e = cc
+byte_some s at b (Some c) h e = let f : c ≡ b = cc in rw f at h
+
+pub shape_end : (s : List ℕ) (at k : ℕ) (o : Option ℕ) → Byte s at o → Err k ≡ ok_or o at → ShapeAt s at (Err k)
+shape_end s at k None b e = let f : k ≡ at = cc in rw f (omega arith, λ h. h, shape_none (drop at s) (λ c Z g i. cc))
+shape_end s at k (Some c) b e = cc
+
+pub shape_odd : (s : List ℕ) (at k : ℕ) (o : Option ℕ) → Byte s at (Some 99) → CountAt s (at + 1) o → Err k ≡ ok_or o (at + 1) → ShapeAt s at (Err k)
+shape_odd s at k None b h e = let f : k ≡ at + 1 = cc in rw f (omega arith, λ i. omega (arith, b.0), shape_count (drop at s) (drop (at + 1) s) b.1 h)
+shape_odd s at k (Some c) b h e = cc
+
 -- ---- a text is being read: after the front, m types are due
 
 pub record Due (s : List ℕ) (i m : ℕ) : Type 0 where
@@ -93,9 +108,6 @@ pub record Due (s : List ℕ) (i m : ℕ) : Type 0 where
   pub splits : s ≡ front ++ drop i s
   pub ahead : (Y rest : List ℕ) → Types 1 (front ++ Y) rest → Types m Y rest
   pub back : (Y rest : List ℕ) → Types m Y rest → Types 1 (front ++ Y) rest
-
-pub due_starts : (s : List ℕ) → Due s 0 1
-due_starts s = record { high = omega arith; small = omega arith; front = []; splits = refl; ahead = λ Y rest t. t; back = λ Y rest t. t }
 
 shape_long : (s : List ℕ) (h : Shape) (i j : ℕ) → Shapely h → drop i s ≡ shape_text h ++ drop j s → i < j → j ≤ length s → i + arity h ≤ j + 2
 shape_long s Number i j k e l u = omega arith

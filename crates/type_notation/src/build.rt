@@ -6,7 +6,7 @@ ghost use Rattle.types.specs.Model.{Ty, ty_of, tys_of};
 use crate::shape::{Shape, shape_at};
 use std::alloc::{AllocError, Global};
 use std::rc::Rc;
-use types::{Field, Fields, Sides, ValueType};
+use types::{Sides, ValueType};
 
 // The type that is written so. Whether the text is a type, and keeps the limits, is for `check_type` to say.
 pub fn build_type(heap: Global, s: &[u8]) -> Result<ValueType, AllocError>
@@ -28,7 +28,7 @@ fn type_at(heap: Global, s: &[u8], at: usize) -> Result<(ValueType, usize), Allo
             Shape::Text => Ok((ValueType::Text, middle)),
             Shape::Compound(count) => {
                 let (fields, end) = fields_at(heap, s, middle, count)?;
-                Ok((ValueType::Compound(fields), end))
+                Ok((ValueType::Compound(Rc::new(heap, fields)?), end))
             }
             Shape::List => {
                 let (item, end) = type_at(heap, s, middle)?;
@@ -48,13 +48,20 @@ fn type_at(heap: Global, s: &[u8], at: usize) -> Result<(ValueType, usize), Allo
 
 // The types that stand one after the other at a place, and the place after them.
 #[cycle(type_at)]
-fn fields_at(heap: Global, s: &[u8], at: usize, count: u8) -> Result<(Fields, usize), AllocError>
-    ensures { IfOk result (λ p. (at ≤ p.1) × BuildsAll s.now at count (tys_of p.0) p.1) }
+fn fields_at(
+    heap: Global,
+    s: &[u8],
+    at: usize,
+    count: u8,
+) -> Result<(Vec<ValueType>, usize), AllocError>
+    ensures { IfOk result (λ p. (at ≤ p.1) × BuildsAll s.now at count (tys_of p.0.items) p.1) }
 {
-    if count == 0 {
-        return Ok((Fields::End, at));
+    let mut fields = Vec::new(heap);
+    let mut end = at;
+    for _ in 0..count {
+        let (field, next) = type_at(heap, s, end)?;
+        fields.push(field)?;
+        end = next;
     }
-    let (head, next) = type_at(heap, s, at)?;
-    let (rest, end) = fields_at(heap, s, next, count - 1)?;
-    Ok((Fields::Entry(Rc::new(heap, Field { head, rest })?), end))
+    Ok((fields, end))
 }

@@ -16,18 +16,14 @@ const DEPTH_LIMIT: usize = 4;
 pub fn check_type(s: &[u8]) -> Result<(), Fault>
     ensures { Answer TypeForm type_fits (λ _ _. Unit {0}) s.now result }
 {
-    match type_end(s) {
-        Err(byte) => Err(Fault::Syntax { byte }),
-        Ok(end) => {
-            if end < s.len() {
-                return Err(Fault::Syntax { byte: end });
-            }
-            if !keeps_limits(s) {
-                return Err(Fault::Limit);
-            }
-            Ok(())
-        }
+    let end = type_end(s).map_err(|byte| Fault::Syntax { byte })?;
+    if end < s.len() {
+        return Err(Fault::Syntax { byte: end });
     }
+    if !keeps_limits(s) {
+        return Err(Fault::Limit);
+    }
+    Ok(())
 }
 
 // Whether the type that is written so keeps its limits.

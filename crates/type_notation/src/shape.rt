@@ -31,19 +31,16 @@ impl Shape {
 pub fn shape_at(s: &[u8], at: usize) -> Result<(Shape, usize), usize>
     ensures { ShapeAt s.now at result }
 {
-    match byte_at(s, at) {
-        None => Err(at),
-        Some(b) => match b as char {
-            'n' => Ok((Shape::Number, at + 1)),
-            't' => Ok((Shape::Text, at + 1)),
-            'c' => match count_at(s, at + 1) {
-                Some(count) => Ok((Shape::Compound(count), at + 2)),
-                None => Err(at + 1),
-            },
-            'l' => Ok((Shape::List, at + 1)),
-            'b' => Ok((Shape::Table, at + 1)),
-            _ => Err(at),
-        },
+    match byte_at(s, at).ok_or(at)? {
+        b'n' => Ok((Shape::Number, at + 1)),
+        b't' => Ok((Shape::Text, at + 1)),
+        b'c' => {
+            let count = count_at(s, at + 1).ok_or(at + 1)?;
+            Ok((Shape::Compound(count), at + 2))
+        }
+        b'l' => Ok((Shape::List, at + 1)),
+        b'b' => Ok((Shape::Table, at + 1)),
+        _ => Err(at),
     }
 }
 
@@ -51,11 +48,8 @@ pub fn shape_at(s: &[u8], at: usize) -> Result<(Shape, usize), usize>
 fn count_at(s: &[u8], at: usize) -> Option<u8>
     ensures { CountAt s.now at result }
 {
-    match byte_at(s, at) {
-        Some(b) => match b {
-            b'2'..=b'4' => Some(b - b'0'),
-            _ => None,
-        },
-        None => None,
+    match byte_at(s, at)? {
+        digit @ b'2'..=b'4' => Some(digit - b'0'),
+        _ => None,
     }
 }

@@ -1,20 +1,20 @@
-use Rattle.std.proofs.Common.{◌≡◌, ℕ, arith}
-use Rattle.type_notation.proofs.Dues.{shape_none, shape_count}
+use Rattle.std.proofs.Common.{◌≡◌, arith}
+use Rattle.std.proofs.lemmas.Result.{err_from_is_err_and}
+use Rattle.type_notation.proofs.Dues.{byte_some, shape_none, shape_end, shape_odd}
 use Rattle.type_notation.proofs.shape.shape_at.Goals as goal
 
-pub returns-in-None : goal.returns-in-None
-returns-in-None c =
-    let e = c.in-None.ensures in
-    (omega arith, λ h. h, shape_none _ (λ b Z f k. let z : ◌≡◌ {A = ℕ} 0 1 = cc in omega arith))
+pub returns-in_err-ok_or : goal.returns-in_err-ok_or
+returns-in_err-ok_or c =
+    let p = err_from_is_err_and c.from_residual.result c.from_residual.ensures.1 in
+    rw (p.1, p.2) (shape_end _ _ _ _ c.byte_at.ensures c.in_err-ok_or.ensures.value)
 
-pub returns-in-None-count_at : goal.returns-in-None-count_at
-returns-in-None-count_at c =
-    let e = c.in-Some.ensures in
-    let f = e.1 in
-    let i = c.in-c.is in
-    (omega arith, λ h. omega (arith, e.0), shape_count _ _ (cc) c.in-None-count_at.ensures)
+pub returns-in_err-count-in-99 : goal.returns-in_err-count-in-99
+returns-in_err-count-in-99 c =
+    let p = err_from_is_err_and c.from_residual-in_err-count-in-99.result c.from_residual-in_err-count-in-99.ensures.1 in
+    let b = byte_some _ _ _ _ c.byte_at.ensures c.in_ok-ok_or.ensures.value in
+    rw (p.1, p.2) (shape_odd _ _ _ _ (rw c.in-99.is at b) c.count_at.ensures c.in_err-count-in-99.ensures.value)
 
 pub returns-in_default : goal.returns-in_default
 returns-in_default c =
-    let f = c.in-Some.ensures.1 in
-    (omega arith, λ h. h, shape_none _ (λ b Z g k. let i : c.in-Some.b ≡ b = cc in omega arith))
+    let f = (byte_some _ _ _ _ c.byte_at.ensures c.in_ok-ok_or.ensures.value).1 in
+    (omega arith, λ h. h, shape_none _ (λ b Z g k. let i : c.in_ok-ok_or.field-0 ≡ b = cc in omega arith))
