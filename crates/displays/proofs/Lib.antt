@@ -8,3 +8,4 @@ pub mod Weights
 pub mod Values
 pub mod Formed
 pub mod Meant
+pub mod Fields

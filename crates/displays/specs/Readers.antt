@@ -1,18 +1,17 @@
 -- What the readers of values say. X is the text from where they begin, and Y from where they end.
-use Rattle.std.specs.Prelude.{◌≡◌, ℕ, ◌<◌, ◌≤◌, Bool, true, ◌&&◌, List, ◌∷◌, length, drop, Ok, Err, Result}
+use Rattle.std.specs.declared.alloc.Global.{Global}
+use Rattle.std.specs.Prelude.{◌≡◌, ℕ, ◌<◌, ◌≤◌, Bool, true, ◌&&◌, List, ◌∷◌, length, drop, Ok, Err, Result, Vec}
 use Rattle.displays.specs.declared.fault.DisplayFault.{DisplayFault}
 use Rattle.displays.specs.declared.fault.DisplayFault.TheVariants.{Syntax, Limit, Conflict, Memory}
-use Rattle.displays.specs.declared.gather.Entry as code
 use Rattle.displays.specs.Forms.{Typed, Each}
-use Rattle.displays.specs.Gathered.{entry_of}
 use Rattle.displays.specs.Settled.{settled, each_settled, within}
 use Rattle.notation.specs.Digits.{NoDigit}
 use Rattle.notation.specs.Quotes.{NoQuote}
 use Rattle.reading.specs.declared.word.Word.{Word}
 use Rattle.reading.specs.Reading.{Stuck}
-use Rattle.tables.specs.Entries.{Entry, entry}
+use Rattle.tables.specs.Entries.{Entry, entry, entry_of}
 use Rattle.types.specs.Model.{Ty, Tys, number, texts, comps, lists, tables}
-use Rattle.values.specs.declared.value.Row.{Row}
+use Rattle.values.specs.declared.value.Entry as code
 use Rattle.values.specs.declared.value.Value.{Value}
 use Rattle.values.specs.Means.{val, vals}
 use Rattle.value_model.specs.Model.{Val, Vals, none, more}
@@ -90,8 +89,8 @@ abbrev pub ReadValue : Ty → List ℕ → ℕ → Result (Word Value) DisplayFa
 ReadValue t s at (Ok w) = (at < w.end) × (w.end ≤ length s) × Got t (drop at s) (val w.value) w.fits (drop w.end s)
 ReadValue t s at (Err f) = Stopped (NoValue t) s at f
 
-abbrev pub ReadFields : Tys → Bool → List ℕ → ℕ → Result (Word Row) DisplayFault → Type 0
-ReadFields ts first s at (Ok w) = (at < w.end) × (w.end ≤ length s) × GotFields ts first (drop at s) (vals w.value) w.fits (drop w.end s)
+abbrev pub ReadFields : Tys → Bool → List ℕ → ℕ → Result (Word (Vec Value Global)) DisplayFault → Type 0
+ReadFields ts first s at (Ok w) = (at < w.end) × (w.end ≤ length s) × GotFields ts first (drop at s) (vals w.value.items) w.fits (drop w.end s)
 ReadFields ts first s at (Err f) = Stopped (NoFields ts first) s at f
 
 abbrev pub ReadEntry : Ty → Ty → List ℕ → ℕ → Result (Word code.Entry) DisplayFault → Type 0
