@@ -1,13 +1,11 @@
 -- The names of targets, by the search.
-use Rattle.std.proofs.Common.{◌≡◌, ℕ, ◌+◌, ◌-◌, ◌<◌, ◌≤◌, Bool, true, false, cond, List, [], ◌∷◌, map, length, get_or, take, drop, Some, None, Ordering, sym, refl, ap, ◌∙◌, arith}
+use Rattle.std.proofs.Common.{◌≡◌, ℕ, Bool, true, List, [], ◌∷◌, map, sym, refl, ap, subst}
 use Rattle.search.proofs.Orders.{is_less, less_at_most}
-use Rattle.search.specs.Search.{TotalOrder, first, rest, rank, Found}
+use Rattle.search.specs.Search.{TotalOrder, rank, Found}
 use Rattle.search.specs.Search as search
 use Rattle.sheets.specs.declared.target.Target.{Target}
 use Rattle.sheets.specs.Targets.{Declared, target_of, by_code, names, among, leads, ascending}
-use Rattle.std.proofs.lemmas.List.{take_all}
 use Rattle.std.proofs.lemmas.Bool.{and_parts, and_from}
-use Rattle.std.specs.Ordering.{is_lt}
 use Rattle.value_model.proofs.Ordered.{cmp_order}
 use Rattle.value_model.specs.Model.{text}
 
@@ -19,23 +17,10 @@ by_code_order = record {
   alike = λ x y z. cmp_order.alike (text x) (text y) (text z);
 }
 
--- ---- a walk along targets
-
-pub walk_end : (n : List ℕ) (ts : List Target) → length ts ≡ 0 → None ≡ first by_code n (names (map target_of ts))
-walk_end n [] e = refl
-walk_end n (t ∷ ts) e = absurd (omega arith)
-
-pub walk_next : (n : List ℕ) (ts : List Target) (t : Target) (o : Ordering) → 1 ≤ length ts → t ≡ get_or ts 0 t → o ≡ by_code t.name.now n → Some o ≡ first by_code n (names (map target_of ts))
-walk_next n [] t o l i e = absurd (omega arith)
-walk_next n (u ∷ ts) t o l i e = ap Some (e ∙ ap (λ t. by_code t.name.now n) i)
-
-pub walk_stays : (ts : List Target) → length ts ≡ 0 → names (map target_of ts) ≡ rest (names (map target_of ts))
-walk_stays [] e = refl
-walk_stays (t ∷ ts) e = absurd (omega arith)
-
-pub walk_on : (ts : List Target) → 1 ≤ length ts → names (map target_of (take (length ts - 1) (drop 1 ts))) ≡ rest (names (map target_of ts))
-walk_on [] l = absurd (omega arith)
-walk_on (t ∷ ts) l = let e = take_all (length (t ∷ ts) - 1) ts (omega arith) in ap (λ r. names (map target_of r)) e
+-- the names of targets, as the search takes them
+pub names_of : (ts : List Target) → map (λ t. t.name.now) ts ≡ names (map target_of ts)
+names_of [] = refl
+names_of (t ∷ ts) = ap (λ r. t.name.now ∷ r) (names_of ts)
 
 -- ---- the place of a name
 
@@ -49,19 +34,8 @@ names_ascending (t ∷ ts) a =
     at_most [] h = refl
     at_most (u ∷ us) h = less_at_most (by_code t.name u.name) (is_less (by_code t.name u.name) h)
 
-pub place_tells : (ts : List Declared) (n : List ℕ) (i : ℕ) (found : Bool) (left : List (List ℕ)) → ascending ts ≡ true → Found by_code n (names ts) i found left → among n ts ≡ found
-place_tells ts n i found left a f = sym (f.parts by_code_order (names_ascending ts a)).tells
-
-rank_within : (n : List ℕ) (ts : List Declared) → rank by_code n (names ts) ≤ length ts
-rank_within n [] = omega arith
-rank_within n (t ∷ ts) = go (is_lt (by_code t.name n)) (rank_within n ts)
-  where
-    go : (b : Bool) → rank by_code n (names ts) ≤ length ts → cond b (rank by_code n (names ts) + 1) 0 ≤ length (t ∷ ts)
-    go true h = omega arith
-    go false h = omega arith
-
-pub place_counts : (ts : List Declared) (n : List ℕ) (i : ℕ) (found : Bool) (left : List (List ℕ)) → length ts < 16 → Found by_code n (names ts) i found left → (i ≡ rank by_code n (names ts)) × (i ≤ length ts)
-place_counts ts n i found left l f =
-    let e = f.place in
-    let h = rank_within n ts in
-    (omega arith, omega arith)
+pub place_tells : (ts : List Target) (n : List ℕ) (i : ℕ) (found : Bool) (left : List (List ℕ)) → ascending (map target_of ts) ≡ true → Found by_code n (map (λ t. t.name.now) ts) i found left
+    → (among n (map target_of ts) ≡ found) × (i ≡ rank by_code n (names (map target_of ts)))
+place_tells ts n i found left a f =
+    let g = subst (λ ns. Found by_code n ns i found left) (names_of ts) f in
+    (sym (g.parts by_code_order (names_ascending (map target_of ts) a)).tells, g.place)

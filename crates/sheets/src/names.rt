@@ -1,42 +1,32 @@
 ghost use Rattle.std.specs.Prelude.{◌≡◌, ℕ, ◌<◌, true, List, map};
-ghost use Rattle.sheets.specs.Targets.{target_of, by_code, names, ascending};
+ghost use Rattle.sheets.specs.Targets.{target_of, by_code, ascending};
 ghost use Rattle.sheets.specs.Places.{FreePlace};
 
 use crate::fault::SheetFault;
 use crate::target::Target;
-use search::{Walk, find};
+use search::{Sought, find};
 use std::cmp::Ordering;
 
 // The most targets that may be declared.
 const TARGET_LIMIT: usize = 16;
 
-// A walk along targets, towards the place of a name.
-#[derive(Drop)]
-pub struct NameWalk<'s, 't, 'n> {
-    pub targets: &'s [Target<'t>],
-    pub name: &'n [u8],
+// A name that is sought among targets.
+#[derive(Clone, Copy)]
+struct ByName<'n> {
+    name: &'n [u8],
 }
 
-impl Walk for NameWalk<'_, '_, '_> {
+impl<'t> Sought<Target<'t>> for ByName<'_> {
     ghost Key = { List ℕ };
 
     ghost compares = { by_code };
 
-    ghost sought = { λ w. w.name.now };
+    ghost key = { λ t. t.name.now };
 
-    ghost ahead = { λ w. names (map target_of w.targets.now) };
+    ghost sought = { λ s. s.name.now };
 
-    fn next(&self) -> Option<Ordering> {
-        match self.targets {
-            [] => None,
-            [first, ..] => Some(first.name.cmp(&self.name)),
-        }
-    }
-
-    fn pass(&mut self) {
-        if let [_, rest @ ..] = self.targets {
-            self.targets = rest;
-        }
+    fn compare(&self, item: &Target<'t>) -> Ordering {
+        item.name.cmp(&self.name)
     }
 }
 
@@ -45,12 +35,9 @@ pub fn free_place(targets: &[Target], name: &[u8]) -> Result<usize, SheetFault>
     requires { ascending (map target_of targets.now) ≡ true }
     ensures { FreePlace (map target_of targets.now) name.now result }
 {
-    let place = find(&mut NameWalk { targets, name });
-    if place.found {
-        return Err(SheetFault::Taken);
+    match find(targets, &ByName { name }) {
+        Ok(_) => Err(SheetFault::Taken),
+        Err(_) if targets.len() >= TARGET_LIMIT => Err(SheetFault::Full),
+        Err(place) => Ok(place),
     }
-    if targets.len() >= TARGET_LIMIT {
-        return Err(SheetFault::Full);
-    }
-    Ok(place.index)
 }

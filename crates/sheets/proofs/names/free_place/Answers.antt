@@ -1,20 +1,19 @@
-use Rattle.std.proofs.Common.{map, ◌∙◌, arith}
-use Rattle.sheets.proofs.Named.{place_tells, place_counts}
+use Rattle.std.proofs.Common.{arith}
+use Rattle.sheets.proofs.Named.{place_tells}
 use Rattle.sheets.proofs.names.free_place.Goals as goal
 use Rattle.sheets.specs.Targets.{target_of}
 use Rattle.std.proofs.lemmas.List.{length-map}
 
-pub returns-then-place : goal.returns-then-place
-returns-then-place c = place_tells (map target_of c.args.targets.now) c.args.name.now _ _ _ c.requires c.find-place.ensures.place ∙ c.if-place.true
+pub returns-in-Ok : goal.returns-in-Ok
+returns-in-Ok c = (place_tells c.args.targets.now c.args.name.now _ _ _ c.requires c.in-Ok.ensures.place).0
 
-pub returns-then-targets-ge-TARGET_LIMIT : goal.returns-then-targets-ge-TARGET_LIMIT
-returns-then-targets-ge-TARGET_LIMIT c =
+pub returns-in-Err : goal.returns-in-Err
+returns-in-Err c =
     let n = length-map c.args.targets.now target_of in
-    (place_tells (map target_of c.args.targets.now) c.args.name.now _ _ _ c.requires c.find-place.ensures.place ∙ c.if-place.false, omega (arith, c.if-targets-ge-TARGET_LIMIT.true))
+    ((place_tells c.args.targets.now c.args.name.now _ _ _ c.requires c.in-Err.ensures.place).0, omega (arith, n, c.if-targets-ge-TARGET_LIMIT.true))
 
-pub returns : goal.returns
-returns c =
-    let ts = map target_of c.args.targets.now in
+pub returns-in-Err-2 : goal.returns-in-Err-2
+returns-in-Err-2 c =
     let n = length-map c.args.targets.now target_of in
-    let p = place_counts ts c.args.name.now _ _ _ (omega (arith, c.if-targets-ge-TARGET_LIMIT.false)) c.find-place.ensures.place in
-    (place_tells ts c.args.name.now _ _ _ c.requires c.find-place.ensures.place ∙ c.if-place.false, omega (arith, c.if-targets-ge-TARGET_LIMIT.false), p.0, p.1)
+    let p = place_tells c.args.targets.now c.args.name.now _ _ _ c.requires c.in-Err.ensures.place in
+    (p.0, omega (arith, n, c.if-targets-ge-TARGET_LIMIT.false), p.1, omega (arith, n, c.in-Err.ensures.within))
