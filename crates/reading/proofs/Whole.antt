@@ -67,8 +67,7 @@ module _ {V : Type 0} (Right : V → Type 0) (shown : V → List ℕ → List �
         long_not : (w : V) (R : List ℕ) (c : ℕ) (x : List ℕ) → R ≡ c ∷ x → SameHead (drop end s) R → Right w → shown w [] ≡ shown v R → ⊥
         long_not w R c x e h r f =
             let p = (N.same w v [] R r right N.after_end (N.after_head (drop end s) R h after) f).1 in
-            let z : ◌≡◌ {A = ℕ} 0 1 = cc in
-            omega arith
+            cc
 
     pub whole_written : length s ≤ end → Written Form s v
     whole_written l =

@@ -1,5 +1,7 @@
-use Rattle.reading.proofs.Marks.{Along}
+use Rattle.std.proofs.Common.{◌+◌, take}
+use Rattle.reading.specs.Bytes.{Stands}
 use Rattle.reading.proofs.bytes.expect.Given as goal
 
-abbrev pub invariant-loop-b : goal.invariant-loop-b
-invariant-loop-b l = Along l.s l.at l.mark l.b-index l.i
+-- the first k bytes of the mark stand at the place
+abbrev pub invariant-loop-k : goal.invariant-loop-k
+invariant-loop-k l = Stands l.s l.at (take l.k l.mark) (l.at + l.k)
