@@ -1,22 +1,24 @@
 -- The steps of the readers of numbers.
-use Rattle.std.proofs.Common.{◌≡◌, ℕ, zero, suc, ◌+◌, ◌*◌, ◌/◌, ◌%◌, ◌<◌, ◌≤◌, Bool, true, false, leb, ◌⊎◌, List, [], ◌∷◌, ◌++◌, length, drop, ℤ, pos, negsuc, neg_ℤ, sym, refl, ap, ◌∙◌, subst, inl, inr, append_assoc, append-nil, arith}
+use Rattle.std.proofs.Common.{◌≡◌, ℕ, zero, suc, ◌+◌, ◌-◌, ◌*◌, ◌/◌, ◌%◌, ◌<◌, ◌≤◌, Bool, true, false, leb, ◌⊎◌, List, [], ◌∷◌, ◌++◌, length, get_or, take, drop, ℤ, pos, negsuc, neg_ℤ, ◌+ℤ◌, ◌*ℤ◌, ◌≤ℤ◌, ◌<ℤ◌, sym, refl, ap, ◌∙◌, subst, inl, inr, Some, None, Option, is_some, Ok, Err, Result, append_assoc, append-nil, take_all, slice_index, arith, length-drop}
 use Rattle.std.specs.Int.Digits.{digits_of}
 use Rattle.std.proofs.lemmas.Int.Digits.{digits_of_step}
 use Rattle.std.proofs.lemmas.Bool.Decides.{nat_tests, leb_tells}
-use Rattle.notation.specs.Digits.{NoDigit, Capped, GotNat, GotNumber, NoNat, NoNumber}
+use Rattle.std.proofs.lemmas.Int.{ints}
+use Rattle.std.proofs.lemmas.List.{drop_more, get_or-take, get_or-drop}
+use Rattle.notation.specs.Digits.{Digit, NoDigit, DigitAt, Capped, GotNat, GotNumber, NoNat, NoNumber, ReadNat, ReadNumber}
+use Rattle.reading.specs.Bytes.{NotHere}
+use Rattle.reading.specs.declared.word.Word.{Word}
 use Rattle.reading.proofs.Whole.{Readable}
 use Rattle.notation.specs.Numbers.{nat, int, NumberForm}
 use Rattle.reading.specs.Reading.{SameHead}
 use Rattle.notation.proofs.Numerals.{chars, digit_more, nat_first, nat_head, int_unique}
 
 -- a number is being read: its digits up to the place i are those of m
-pub record Going (s : List ℕ) (at first v : ℕ) (fits : Bool) (i : ℕ) : Type 0 where
+pub record Going (s : List ℕ) (at first : ℕ) (v : ℤ) (fits : Bool) (i : ℕ) : Type 0 where
   pub m : ℕ
   pub some : 0 < m
   pub shows : (48 + first) ∷ drop at s ≡ nat m ++ drop i s
   pub so : Capped m v fits
-  pub low : at ≤ i
-  pub high : i ≤ length s
 
 nat_pos : (n : ℕ) → 0 < n → nat n ≡ chars (digits_of 10 n)
 nat_pos zero h = absurd (omega arith)
@@ -31,49 +33,58 @@ nat_one d h k =
 pub nat_more : (n d : ℕ) → 0 < n → d < 10 → nat (n * 10 + d) ≡ nat n ++ ((48 + d) ∷ [])
 nat_more n d h k = nat_pos (n * 10 + d) (omega arith) ∙ digit_more n d h k ∙ ap (λ x. x ++ ((48 + d) ∷ [])) (sym (nat_pos n h))
 
-pub keeps : (m v d : ℕ) (fits : Bool) → Capped m v fits → d < 10 → fits ≡ true → v ≤ 99999999 → Capped (m * 10 + d) (v * 10 + d) fits
-keeps m v d fits h k t l =
+pub keeps : (m d : ℕ) (v : ℤ) (fits : Bool) → Capped m v fits → d < 10 → fits ≡ true → v ≤ℤ pos 99999999 → Capped (m * 10 + d) (v *ℤ pos 10 +ℤ pos d) fits
+keeps m d v fits h k t l =
     let a : leb m 999999999 ≡ true = sym h.within ∙ t in
     let b : m ≤ 999999999 = grind (arith, nat_tests) in
     let e = h.means b in
-    record { within = grind (arith, nat_tests); means = λ g. omega arith; small = omega arith }
+    record { within = grind (arith, nat_tests); means = λ g. omega (arith, ints); positive = omega (arith, ints, h.positive); small = omega (arith, ints) }
 
-pub loses : (m v d : ℕ) (fits : Bool) → Capped m v fits → (fits ≡ false) ⊎ (99999999 < v) → Capped (m * 10 + d) v false
-loses m v d fits h o =
+pub loses : (m d : ℕ) (v : ℤ) (fits : Bool) → Capped m v fits → (fits ≡ false) ⊎ (pos 99999999 <ℤ v) → Capped (m * 10 + d) v false
+loses m d v fits h o =
     let big : 99999999 < m = elim (leb_tells m 999999999) [ inl x ↦ go x o | inr x ↦ omega (arith, x.1) ] in
-    record { within = grind (arith, nat_tests); means = λ g. absurd (omega arith); small = h.small }
+    record { within = grind (arith, nat_tests); means = λ g. absurd (omega arith); positive = h.positive; small = h.small }
   where
-    go : (leb m 999999999 ≡ true) × (m ≤ 999999999) → (fits ≡ false) ⊎ (99999999 < v) → 99999999 < m
-    go x (inl f) = let w = h.within in let y = x.0 in let z : ◌≡◌ {A = ℕ} 0 1 = cc in absurd (omega arith)
-    go x (inr g) = omega (arith, h.means x.1)
+    go : (leb m 999999999 ≡ true) × (m ≤ 999999999) → (fits ≡ false) ⊎ (pos 99999999 <ℤ v) → 99999999 < m
+    go x (inl f) = let w = h.within in let y = x.0 in cc
+    go x (inr g) = omega (arith, ints, h.means x.1)
 
-module _ (s : List ℕ) (at first v : ℕ) (fits : Bool) (i d : ℕ) (h : Going s at first v fits i) (k : (i < length s) × (drop i s ≡ (48 + d) ∷ drop (i + 1) s) × (d < 10)) where
-  onward : (48 + first) ∷ drop at s ≡ nat (h.m * 10 + d) ++ drop (i + 1) s
+-- the byte x is the next digit, and the place j is after it
+module _ (s : List ℕ) (at first i j x : ℕ) (v : ℤ) (fits : Bool) (h : Going s at first v fits i) (e : drop i s ≡ x ∷ drop j s) (k : Digit x) where
+  onward : (48 + first) ∷ drop at s ≡ nat (h.m * 10 + (x - 48)) ++ drop j s
   onward =
       let a = h.shows in
-      let b = nat_more h.m d h.some k.2 in
-      let c = append_assoc (nat h.m) ((48 + d) ∷ []) (drop (i + 1) s) in
-      let e = k.1 in
+      let b = nat_more h.m (x - 48) h.some (omega arith) in
+      let c = append_assoc (nat h.m) ((48 + (x - 48)) ∷ []) (drop j s) in
+      let f : 48 + (x - 48) ≡ x = omega arith in
       cc
 
-  pub going_keeps : fits ≡ true → v ≤ 99999999 → Going s at first (v * 10 + d) fits (i + 1)
-  going_keeps t l = record { m = h.m * 10 + d; some = omega (arith, h.some); shows = onward; so = keeps h.m v d fits h.so k.2 t l; low = omega (arith, h.low); high = omega (arith, k.0) }
+  pub going_keeps : (w : ℤ) → w ≡ v *ℤ pos 10 +ℤ pos (x - 48) → fits ≡ true → v ≤ℤ pos 99999999 → Going s at first w fits j
+  going_keeps w g t l = rw g (record { m = h.m * 10 + (x - 48); some = omega (arith, h.some); shows = onward; so = keeps h.m (x - 48) v fits h.so (omega arith) t l })
 
-  pub going_loses : (fits ≡ false) ⊎ (99999999 < v) → Going s at first v false (i + 1)
-  going_loses o = record { m = h.m * 10 + d; some = omega (arith, h.some); shows = onward; so = loses h.m v d fits h.so o; low = omega (arith, h.low); high = omega (arith, k.0) }
+  pub going_loses : (fits ≡ false) ⊎ (pos 99999999 <ℤ v) → Going s at first v false j
+  going_loses o = record { m = h.m * 10 + (x - 48); some = omega (arith, h.some); shows = onward; so = loses h.m (x - 48) v fits h.so o }
 
-pub going_starts : (s : List ℕ) (at first : ℕ) → at ≤ length s → 0 < first → first < 10 → Going s at first first true at
-going_starts s at first h k l =
+pub slice_from : (s : List ℕ) (at : ℕ) → take (length s - at) (drop at s) ≡ drop at s
+slice_from s at = take_all (length s - at) (drop at s) (omega (arith, length-drop at s))
+
+-- a byte of the digits that stand from a place on
+pub digit_next : (s : List ℕ) (at len k : ℕ) → at + len ≤ length s → ((j : ℕ) → j < len → Digit (slice_index (take (length s - at) (drop at s)) j)) → k < len → (x : ℕ) → x ≡ get_or (take (at + len - at) (drop at s)) k 0
+    → (drop (at + k) s ≡ x ∷ drop (at + (k + 1)) s) × Digit x
+digit_next s at len k w d l x e =
+    let a : x ≡ get_or (drop at s) k 0 = e ∙ get_or-take (at + len - at) (drop at s) k 0 (omega arith) in
+    let b = get_or-drop at s k 0 in
+    let f = drop_more s (at + k) 0 (omega arith) in
+    let n : at + (k + 1) ≡ at + k + 1 = omega arith in
+    let g : Digit (slice_index (drop at s) k) = rw (slice_from s at) at (d k l) in
+    (rw n (cc), rw a g)
+
+pub going_starts : (s : List ℕ) (at first : ℕ) → 0 < first → first < 10 → Going s at first (pos first) true at
+going_starts s at first k l =
     let e = nat_one first k l in
-    record { m = first; some = k; shows = cc; so = record { within = grind (arith, nat_tests); means = λ _. refl; small = omega arith }; low = omega arith; high = h }
-
-pub going_ends : (s : List ℕ) (at first v : ℕ) (fits : Bool) (i : ℕ) → Going s at first v fits i → NoDigit (drop i s) → GotNat ((48 + first) ∷ drop at s) v fits (drop i s)
-going_ends s at first v fits i h k = record { n = h.m; shows = h.shows; after = k; so = h.so }
+    record { m = first; some = k; shows = cc; so = record { within = grind (arith, nat_tests); means = λ _. refl; positive = omega (arith, ints); small = omega (arith, ints) } }
 
 -- ---- a number without a sign
-
-pub zero_alone : (X Y : List ℕ) (c : ℕ) → X ≡ c ∷ Y → c ≡ 48 → NoDigit Y → GotNat X 0 true Y
-zero_alone X Y c p q h = record { n = 0; shows = cc; after = h; so = record { within = refl; means = λ _. refl; small = omega arith } }
 
 no_digit_head : (X R : List ℕ) → SameHead X R → NoDigit X → NoDigit R
 no_digit_head [] [] h n = tt
@@ -82,7 +93,7 @@ no_digit_head (c ∷ X) [] h n = elim h [ ]
 no_digit_head (c ∷ X) (d ∷ R) h n = λ k. n (omega arith, omega arith)
 
 not_nat : (X : List ℕ) → NoDigit X → (n : ℕ) (rest : List ℕ) → X ≡ nat n ++ rest → ⊥
-not_nat [] h n rest e = let p = nat_head n in let f = p.2 in let z : ◌≡◌ {A = ℕ} 0 1 = cc in omega arith
+not_nat [] h n rest e = let p = nat_head n in let f = p.2 in cc
 not_nat (c ∷ X) h n rest e = let p = nat_head n in let f = p.2 in let g = p.3 in let z : c ≡ p.0 = cc in h (omega arith, omega arith)
 
 -- where no digit stands, no number does
@@ -98,7 +109,7 @@ nat_none X h = record {
 }
 
 -- nor where a digit follows a zero
-pub nat_zero : (X Y Z : List ℕ) (c d : ℕ) → X ≡ c ∷ Y → c ≡ 48 → Y ≡ (48 + d) ∷ Z → d < 10 → NoNat X Y
+nat_zero : (X Y Z : List ℕ) (c d : ℕ) → X ≡ c ∷ Y → c ≡ 48 → Y ≡ (48 + d) ∷ Z → d < 10 → NoNat X Y
 nat_zero X Y Z c d p q r l = record {
   front = 48 ∷ [];
   splits = cc;
@@ -114,13 +125,17 @@ nat_zero X Y Z c d p q r l = record {
     stop_at (b ∷ R) zero rest s a e = go rest a (cc)
       where
         go : (rest : List ℕ) → NoDigit rest → b ∷ R ≡ rest → ⊥
-        go [] a e = let z : ◌≡◌ {A = ℕ} 0 1 = cc in omega arith
+        go [] a e = cc
         go (x ∷ rest) a e = let z : b ≡ x = cc in a (omega arith, omega arith)
     stop_at (b ∷ R) (suc n) rest s a e =
         let f = nat_first (suc n) (omega arith) in
         let g = f.2 in
         let z : f.0 ≡ 48 = cc in
         omega (arith, f.3)
+
+pub zero_more : (s : List ℕ) (at : ℕ) (o : Option ℕ) → DigitAt s at (Some 0) → DigitAt s (at + 1) o → true ≡ is_some o → NoNat (drop at s) (drop (at + 1) s)
+zero_more s at None h k e = cc
+zero_more s at (Some d) h k e = nat_zero _ _ _ 48 d h.1 refl k.1 k.2
 
 -- ---- a number with a sign
 
@@ -131,10 +146,10 @@ same_head_front X (c ∷ front) back R e h = subst (λ (Y : List ℕ). SameHead 
 head_of : (X R Y : List ℕ) (c : ℕ) → SameHead X R → R ≡ c ∷ Y → (Z : List ℕ) × (X ≡ c ∷ Z)
 head_of [] (r ∷ R) Y c h e = elim h [ ]
 head_of (x ∷ X) [] Y c h e = elim h [ ]
-head_of [] [] Y c h e = let z : ◌≡◌ {A = ℕ} 0 1 = cc in absurd (omega arith)
+head_of [] [] Y c h e = absurd (cc)
 head_of (x ∷ X) (r ∷ R) Y c h e = (X, cc)
 
-pub number_none : (X back : List ℕ) → NoNat X back → ((rest : List ℕ) → X ≡ 45 ∷ rest → ⊥) → NoNumber X back
+number_none : (X back : List ℕ) → NoNat X back → ((rest : List ℕ) → X ≡ 45 ∷ rest → ⊥) → NoNumber X back
 number_none X back h k = record {
   front = h.front;
   splits = h.splits;
@@ -159,7 +174,7 @@ minus_not_nat n rest R e =
     omega (arith, p.3.0)
 
 -- after a minus, no digit, or a zero
-pub minus_none : (X Z : List ℕ) → X ≡ 45 ∷ Z → ((c : ℕ) (Y : List ℕ) → Z ≡ c ∷ Y → 48 < c → c ≤ 57 → ⊥) → NoNumber X Z
+minus_none : (X Z : List ℕ) → X ≡ 45 ∷ Z → ((c : ℕ) (Y : List ℕ) → Z ≡ c ∷ Y → 48 < c → c ≤ 57 → ⊥) → NoNumber X Z
 minus_none X Z e h = record {
   front = 45 ∷ [];
   splits = e;
@@ -179,15 +194,18 @@ minus_none X Z e h = record {
         let m = head_of Z R (p.1 ++ rest) p.0 s i in
         h p.0 m.0 m.1 p.3 p.4
 
-pub minus_no_digit : (Z : List ℕ) → NoDigit Z → (c : ℕ) (Y : List ℕ) → Z ≡ c ∷ Y → 48 < c → c ≤ 57 → ⊥
-minus_no_digit [] h c Y e a b = let z : ◌≡◌ {A = ℕ} 0 1 = cc in omega arith
-minus_no_digit (x ∷ Z) h c Y e a b = let z : x ≡ c = cc in h (omega arith, omega arith)
+pub minus_no_digit : (X Z : List ℕ) → X ≡ 45 ∷ Z → NoDigit Z → NoNumber X Z
+minus_no_digit X Z e h = minus_none X Z e (no Z h)
+  where
+    no : (Z : List ℕ) → NoDigit Z → (c : ℕ) (Y : List ℕ) → Z ≡ c ∷ Y → 48 < c → c ≤ 57 → ⊥
+    no [] h c Y e a b = cc
+    no (x ∷ Z) h c Y e a b = let z : x ≡ c = cc in h (omega arith, omega arith)
 
-pub minus_a_zero : (Z W : List ℕ) (d : ℕ) → Z ≡ (48 + d) ∷ W → d ≡ 0 → (c : ℕ) (Y : List ℕ) → Z ≡ c ∷ Y → 48 < c → c ≤ 57 → ⊥
-minus_a_zero Z W d f h c Y e a b = let i : c ≡ 48 + d = cc in omega arith
+pub minus_zero : (X Z W : List ℕ) (d : ℕ) → X ≡ 45 ∷ Z → Z ≡ (48 + d) ∷ W → d ≡ 0 → NoNumber X Z
+minus_zero X Z W d e f z = minus_none X Z e (λ c Y g a b. let i : c ≡ 48 + d = cc in omega arith)
 
-pub plus_number : (X Y : List ℕ) (n : ℕ) (fits : Bool) (v : ℤ) → GotNat X n fits Y → v ≡ pos n → GotNumber X v fits Y
-plus_number X Y n fits v g e =
+plus_number : (X Y : List ℕ) (fits : Bool) (v : ℤ) → GotNat X v fits Y → GotNumber X v fits Y
+plus_number X Y fits v g =
     record {
       z = pos g.n;
       shows = g.shows;
@@ -196,11 +214,16 @@ plus_number X Y n fits v g e =
       means = λ t.
           let a : leb g.n 999999999 ≡ true = sym g.so.within ∙ t in
           let b : g.n ≤ 999999999 = grind (arith, nat_tests) in
-          e ∙ ap pos (g.so.means b);
+          g.so.means b;
     }
 
-pub minus_number : (X Y Z W : List ℕ) (d n : ℕ) (fits : Bool) (v : ℤ) → X ≡ 45 ∷ Z → Z ≡ (48 + d) ∷ W → 0 < d → GotNat ((48 + d) ∷ W) n fits Y → v ≡ neg_ℤ (pos n) → GotNumber X v fits Y
-minus_number X Y Z W d n fits v e f l g i = go g.n g.shows g.so
+-- where no minus stands, what is read without a sign is a number
+pub unsigned : (s : List ℕ) (at : ℕ) (r : Result (Word ℤ) ℕ) → NotHere s at 45 → ReadNat s at r → ReadNumber s at r
+unsigned s at (Ok w) n h = (h.0, h.1, plus_number _ _ _ _ h.2)
+unsigned s at (Err k) n h = (h.0, h.1, number_none _ _ h.2 n)
+
+pub minus_number : (X Y Z W : List ℕ) (d : ℕ) (fits : Bool) (n v : ℤ) → X ≡ 45 ∷ Z → Z ≡ (48 + d) ∷ W → 0 < d → GotNat ((48 + d) ∷ W) n fits Y → v ≡ neg_ℤ n → GotNumber X v fits Y
+minus_number X Y Z W d fits n v e f l g i = go g.n g.shows g.so
   where
     go : (m : ℕ) → (48 + d) ∷ W ≡ nat m ++ Y → Capped m n fits → GotNumber X v fits Y
     go zero j k = let o : 48 + d ≡ 48 = cc in absurd (omega arith)
@@ -212,7 +235,7 @@ minus_number X Y Z W d n fits v e f l g i = go g.n g.shows g.so
       means = λ t.
           let a : leb (suc m) 999999999 ≡ true = sym k.within ∙ t in
           let b : suc m ≤ 999999999 = grind (arith, nat_tests) in
-          i ∙ ap (λ x. neg_ℤ (pos x)) (k.means b);
+          i ∙ ap neg_ℤ (k.means b);
     }
 
 pub number_readable : Readable (λ (z : ℤ). Unit {0}) (λ z rest. int z ++ rest) NoDigit NumberForm

@@ -2,3 +2,4 @@ pub mod Numerals
 pub mod Counting
 pub mod Quoting
 pub mod Naming
+pub mod Faults

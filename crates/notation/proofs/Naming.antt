@@ -1,28 +1,21 @@
 -- Names: where a text stops being one.
-use Rattle.std.proofs.Common.{◌≡◌, ℕ, ◌+◌, ◌<◌, ◌≤◌, Bool, true, false, cond, List, [], ◌∷◌, ◌++◌, length, sym, refl, ap, ◌∙◌, subst, append-nil, arith, length-append}
-use Rattle.notation.specs.Names.{letter, name_code, name_codes, NameForm, run, name_front}
+use Rattle.std.proofs.Common.{◌≡◌, ℕ, ◌+◌, ◌<◌, ◌≤◌, Bool, true, false, cond, List, [], ◌∷◌, ◌++◌, length, refl, ap, ◌∙◌, ◌⊎◌, subst, append-nil, arith, length-append}
+use Rattle.std.specs.List.{prefix_len}
+use Rattle.notation.specs.Names.{letter, name_code, name_codes, NameForm, name_front}
 use Rattle.reading.specs.Reading.{Written, Wrong}
-use Rattle.std.proofs.lemmas.Bool.{and_parts, and_from, cond-true, cond-false}
-
--- ---- how far a run of codes goes
-
-pub run_more : (X Y : List ℕ) (c : ℕ) → X ≡ c ∷ Y → name_code c ≡ true → run X ≡ 1 + run Y
-run_more X Y c e h = ap run e ∙ cond-true (name_code c) (1 + run Y) 0 h
-
-pub run_none : (X Y : List ℕ) (c : ℕ) → X ≡ c ∷ Y → name_code c ≡ false → run X ≡ 0
-run_none X Y c e h = ap run e ∙ cond-false (name_code c) (1 + run Y) 0 h
+use Rattle.std.proofs.lemmas.Bool.{and_parts, and_from}
 
 -- the run, and what stops it
 record Cut (s : List ℕ) : Type 0 where
   front : List ℕ
   back : List ℕ
   splits : s ≡ front ++ back
-  long : length front ≡ run s
+  long : length front ≡ prefix_len name_code s
   codes : name_codes front ≡ true
   stop : (c : ℕ) (rest : List ℕ) → back ≡ c ∷ rest → name_code c ≡ false
 
 cut : (s : List ℕ) → Cut s
-cut [] = record { front = []; back = []; splits = refl; long = refl; codes = refl; stop = λ c rest e. let z : ◌≡◌ {A = ℕ} 0 1 = cc in absurd (omega arith) }
+cut [] = record { front = []; back = []; splits = refl; long = refl; codes = refl; stop = λ c rest e. absurd (cc) }
 cut (c ∷ s) = go (name_code c) refl (cut s)
   where
     go : (b : Bool) → name_code c ≡ b → Cut s → Cut (c ∷ s)
@@ -32,11 +25,11 @@ cut (c ∷ s) = go (name_code c) refl (cut s)
           front = c ∷ p.front;
           back = p.back;
           splits = ap (λ x. c ∷ x) p.splits;
-          long = let r = run_more (c ∷ s) s c refl h in omega arith;
+          long = rw (h, l) (omega arith);
           codes = and_from (name_code c) (name_codes p.front) h p.codes;
           stop = p.stop;
         }
-    go false h p = record { front = []; back = c ∷ s; splits = refl; long = sym (run_none (c ∷ s) s c refl h); codes = refl; stop = λ d rest e. let i : d ≡ c = cc in ap name_code i ∙ h }
+    go false h p = record { front = []; back = c ∷ s; splits = refl; long = rw h; codes = refl; stop = λ d rest e. let i : d ≡ c = cc in ap name_code i ∙ h }
 
 codes_at : (f : List ℕ) (d : ℕ) (x : List ℕ) → name_codes (f ++ (d ∷ x)) ≡ true → name_code d ≡ true
 codes_at [] d x h = (and_parts (name_code d) (name_codes x) h).0
@@ -45,7 +38,7 @@ codes_at (c ∷ f) d x h = codes_at f d x (and_parts (name_code c) (name_codes (
 -- ---- what is no name
 
 no_true : {P : Type 0} (b : Bool) → b ≡ true → b ≡ false → P
-no_true b e f = let z : ◌≡◌ {A = ℕ} 0 1 = cc in absurd (omega arith)
+no_true b e f = absurd (cc)
 
 abbrev a_name : List ℕ
 a_name = 97 ∷ []
@@ -61,7 +54,7 @@ name_none = record {
     word = a_name;
     more = a_name;
     shares = (refl, refl);
-    most = λ c rest e w x f. let z : ◌≡◌ {A = ℕ} 0 1 = cc in omega arith;
+    most = λ c rest e w x f. cc;
   };
 }
 
@@ -80,13 +73,13 @@ name_first c s h = record {
   };
 }
 
-name_later : (c : ℕ) (s : List ℕ) → letter c ≡ true → run s < length s → Wrong NameForm (c ∷ s) (1 + run s)
+name_later : (c : ℕ) (s : List ℕ) → letter c ≡ true → prefix_len name_code s < length s → Wrong NameForm (c ∷ s) (1 + prefix_len name_code s)
 name_later c s h l = go (cut s)
   where
-    go : Cut s → Wrong NameForm (c ∷ s) (1 + run s)
+    go : Cut s → Wrong NameForm (c ∷ s) (1 + prefix_len name_code s)
     go p = at p.back refl
       where
-        at : (b : List ℕ) → p.back ≡ b → Wrong NameForm (c ∷ s) (1 + run s)
+        at : (b : List ℕ) → p.back ≡ b → Wrong NameForm (c ∷ s) (1 + prefix_len name_code s)
         at [] e =
             let m = ap length (p.splits ∙ ap (λ x. p.front ++ x) e ∙ append-nil p.front) in
             let n = p.long in
@@ -107,19 +100,19 @@ name_later c s h l = go (cut s)
           };
         }
 
-pub name_wrong : (s : List ℕ) → name_front s < length s → Wrong NameForm s (name_front s)
-name_wrong [] l = absurd (omega arith)
+pub name_wrong : (s : List ℕ) → (name_front s ≡ 0) ⊎ (name_front s < length s) → Wrong NameForm s (name_front s)
+name_wrong [] l = name_none
 name_wrong (c ∷ s) l = go (letter c) refl l
   where
-    go : (b : Bool) → letter c ≡ b → cond b (1 + run s) 0 < length (c ∷ s) → Wrong NameForm (c ∷ s) (cond b (1 + run s) 0)
+    go : (b : Bool) → letter c ≡ b → (cond b (1 + prefix_len name_code s) 0 ≡ 0) ⊎ (cond b (1 + prefix_len name_code s) 0 < length (c ∷ s)) → Wrong NameForm (c ∷ s) (cond b (1 + prefix_len name_code s) 0)
     go true h l = name_later c s h (omega arith)
     go false h l = name_first c s h
 
-pub name_written : (s : List ℕ) → 0 < length s → length s ≤ name_front s → Written NameForm s s
+pub name_written : (s : List ℕ) → 0 < name_front s → length s ≤ name_front s → Written NameForm s s
 name_written [] h l = absurd (omega arith)
 name_written (c ∷ s) h l = go (letter c) refl l (cut s)
   where
-    go : (b : Bool) → letter c ≡ b → length (c ∷ s) ≤ cond b (1 + run s) 0 → Cut s → Written NameForm (c ∷ s) (c ∷ s)
+    go : (b : Bool) → letter c ≡ b → length (c ∷ s) ≤ cond b (1 + prefix_len name_code s) 0 → Cut s → Written NameForm (c ∷ s) (c ∷ s)
     go false e l p = absurd (omega arith)
     go true e l p = record { form = (refl, and_from (letter c) (name_codes s) e (at p.back refl)); only = λ w f. f.0 }
       where
@@ -129,7 +122,3 @@ name_written (c ∷ s) h l = go (letter c) refl l (cut s)
             let m = ap length (p.splits ∙ ap (λ x. p.front ++ x) g) ∙ length-append p.front (d ∷ b) in
             let n = p.long in
             absurd (omega arith)
-
-pub name_empty : (s : List ℕ) → length s ≡ 0 → Wrong NameForm s 0
-name_empty [] e = name_none
-name_empty (c ∷ s) e = absurd (omega arith)

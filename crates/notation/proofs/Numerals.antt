@@ -29,9 +29,9 @@ nat_digits (suc n) = chars_digits (digits_of 10 (suc n)) (all_below_base_digits_
 -- two runs of digits, each followed by no digit
 pub digits_same : (xs ys r q : List ℕ) → AllByRecursion Digit xs → AllByRecursion Digit ys → NoDigit r → NoDigit q → xs ++ r ≡ ys ++ q → (xs ≡ ys) × (r ≡ q)
 digits_same [] [] r q h k m n e = (refl, e)
-digits_same [] (y ∷ ys) [] q h k m n e = let z : ◌≡◌ {A = ℕ} 0 1 = cc in absurd (omega arith)
+digits_same [] (y ∷ ys) [] q h k m n e = absurd (cc)
 digits_same [] (y ∷ ys) (c ∷ r) q h k m n e = let z : y ≡ c = cc in absurd (m (omega arith, omega arith))
-digits_same (x ∷ xs) [] r [] h k m n e = let z : ◌≡◌ {A = ℕ} 0 1 = cc in absurd (omega arith)
+digits_same (x ∷ xs) [] r [] h k m n e = absurd (cc)
 digits_same (x ∷ xs) [] r (c ∷ q) h k m n e = let z : x ≡ c = cc in absurd (n (omega arith, omega arith))
 digits_same (x ∷ xs) (y ∷ ys) r q h k m n e =
     let t : xs ++ r ≡ ys ++ q = cc in
@@ -42,8 +42,8 @@ digits_same (x ∷ xs) (y ∷ ys) r q h k m n e =
 
 chars_same : (xs ys : List ℕ) → chars xs ≡ chars ys → xs ≡ ys
 chars_same [] [] e = refl
-chars_same [] (y ∷ ys) e = let z : ◌≡◌ {A = ℕ} 0 1 = cc in absurd (omega arith)
-chars_same (x ∷ xs) [] e = let z : ◌≡◌ {A = ℕ} 0 1 = cc in absurd (omega arith)
+chars_same [] (y ∷ ys) e = absurd (cc)
+chars_same (x ∷ xs) [] e = absurd (cc)
 chars_same (x ∷ xs) (y ∷ ys) e =
     let t : chars xs ≡ chars ys = cc in
     let a : 48 + x ≡ 48 + y = cc in

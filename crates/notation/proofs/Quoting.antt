@@ -1,9 +1,9 @@
 -- Texts: their codes are read in one way, and the steps of their readers.
-use Rattle.std.proofs.Common.{◌≡◌, ℕ, ◌+◌, ◌<◌, ◌≤◌, Bool, true, false, cond, List, [], ◌∷◌, ◌++◌, length, drop, sym, refl, ap, ◌∙◌, subst, append-nil, arith, length-append}
+use Rattle.std.proofs.Common.{◌≡◌, ℕ, ◌+◌, ◌<◌, ◌≤◌, Bool, true, false, cond, List, [], ◌∷◌, ◌++◌, length, drop, Some, None, Ok, Err, Option, Result, ◌≢◌, sym, refl, ap, ◌∙◌, subst, append-nil, arith, length-append}
 use Rattle.reading.proofs.Whole.{Readable, same_head_self}
-use Rattle.notation.specs.Quotes.{NoQuote, NoEnd, GotText, NoText, Unquotes}
+use Rattle.notation.specs.Quotes.{NoQuote, NoEnd, Stands, NoText, Unquotes}
 use Rattle.reading.specs.Reading.{SameHead}
-use Rattle.notation.specs.Texts.{twice, step, inner, Printed, TextForm, text_fits}
+use Rattle.notation.specs.Texts.{twice, step, inner, Printed, TextForm}
 use Rattle.std.proofs.lemmas.Bool.{and_parts, and_from}
 use Rattle.types.specs.Types.{printable, printables}
 
@@ -14,8 +14,8 @@ step_same c d X Y e = go (twice c) refl (twice d) refl e
   where
     go : (a : Bool) → twice c ≡ a → (b : Bool) → twice d ≡ b → cond a (c ∷ (c ∷ X)) (c ∷ X) ≡ cond b (d ∷ (d ∷ Y)) (d ∷ Y) → (c ≡ d) × (X ≡ Y)
     go true p true q e = (cc, cc)
-    go true p false q e = let i : c ≡ d = cc in let f = ap twice i in let z : ◌≡◌ {A = ℕ} 0 1 = cc in absurd (omega arith)
-    go false p true q e = let i : c ≡ d = cc in let f = ap twice i in let z : ◌≡◌ {A = ℕ} 0 1 = cc in absurd (omega arith)
+    go true p false q e = let i : c ≡ d = cc in let f = ap twice i in absurd (cc)
+    go false p true q e = let i : c ≡ d = cc in let f = ap twice i in absurd (cc)
     go false p false q e = (cc, cc)
 
 step_some : (c : ℕ) (X : List ℕ) → (Y : List ℕ) × (step c X ≡ c ∷ Y)
@@ -54,7 +54,7 @@ not_end c Y [] h e =
     let f = p.1 in
     let i : c ≡ 39 = cc in
     let g = step_twice c Y (ap twice i) in
-    let z : ◌≡◌ {A = ℕ} 0 1 = cc in omega arith
+    cc
 not_end c Y (d ∷ rest) h e =
     let p = step_some c Y in
     let f = p.1 in
@@ -116,8 +116,8 @@ end_none X e = record {
 }
   where
     go : (R : List ℕ) → SameHead [] R → (w rest : List ℕ) → R ≡ inner w (39 ∷ rest) → ⊥
-    go [] s [] rest f = let z : ◌≡◌ {A = ℕ} 0 1 = cc in omega arith
-    go [] s (c ∷ w) rest f = let p = step_some c (inner w (39 ∷ rest)) in let q = p.1 in let z : ◌≡◌ {A = ℕ} 0 1 = cc in omega arith
+    go [] s [] rest f = cc
+    go [] s (c ∷ w) rest f = let p = step_some c (inner w (39 ∷ rest)) in let q = p.1 in cc
     go (d ∷ R) s w rest f = s
 
 pub end_byte : (X Z : List ℕ) (b : ℕ) → X ≡ b ∷ Z → printable b ≡ false → NoEnd X X
@@ -136,13 +136,13 @@ end_byte X Z b e n = record {
     go (d ∷ R) s [] rest a f =
         let i : b ≡ 39 = cc in
         let j = sym n ∙ ap printable i in
-        let z : ◌≡◌ {A = ℕ} 0 1 = cc in omega arith
+        cc
     go (d ∷ R) s (c ∷ w) rest a f =
         let p = step_some c (inner w (39 ∷ rest)) in
         let q = p.1 in
         let i : b ≡ c = cc in
         let j = sym n ∙ ap printable i ∙ (and_parts (printable c) (printables w) a).0 in
-        let z : ◌≡◌ {A = ℕ} 0 1 = cc in omega arith
+        cc
 
 -- a back quote that is not doubled
 pub end_back : (X Z : List ℕ) → X ≡ 96 ∷ Z → ((rest : List ℕ) → Z ≡ 96 ∷ rest → ⊥) → NoEnd X Z
@@ -184,19 +184,13 @@ pub record Reading (s : List ℕ) (at : ℕ) (t : List ℕ) (i : ℕ) : Type 0 w
   pub shows : drop at s ≡ 39 ∷ inner t (drop i s)
   pub printed : Printed t
 
-pub reading_starts : (s : List ℕ) (at : ℕ) → (at < length s) × (drop at s ≡ 39 ∷ drop (at + 1) s) → Reading s at [] (at + 1)
-reading_starts s at h = record { low = omega arith; high = omega (arith, h.0); shows = h.1; printed = refl }
-
-pub reading_more : (s : List ℕ) (at : ℕ) (t : List ℕ) (i c end : ℕ) → Reading s at t i → (i < end) × (end ≤ length s) × (drop i s ≡ step c (drop end s)) × (printable c ≡ true) → Reading s at (t ++ (c ∷ [])) end
+pub reading_more : (s : List ℕ) (at : ℕ) (t : List ℕ) (i c end : ℕ) → Reading s at t i → Stands s i (Ok (Some (c, end))) → Reading s at (t ++ (c ∷ [])) end
 reading_more s at t i c end h k = record {
   low = simp length-append (omega (arith, h.low, k.0));
   high = k.1;
   shows = h.shows ∙ ap (λ x. 39 ∷ inner t x) k.2 ∙ ap (λ x. 39 ∷ x) (sym (inner_more t c (drop end s)));
   printed = printed_append t (c ∷ []) h.printed (and_from (printable c) true k.3 refl);
 }
-
-pub reading_ends : (s : List ℕ) (at : ℕ) (t : List ℕ) (i : ℕ) → Reading s at t i → drop i s ≡ 39 ∷ drop (i + 1) s → NoQuote (drop (i + 1) s) → GotText (drop at s) (length t) (text_fits t) (drop (i + 1) s)
-reading_ends s at t i h e k = record { codes = t; shows = h.shows ∙ ap (λ x. 39 ∷ inner t x) e; printed = h.printed; after = k; within = refl; counts = refl }
 
 -- a text that begins with what was read goes on with a text's end
 rest_of : (t R w rest : List ℕ) → Printed w → NoQuote rest → inner t R ≡ inner w (39 ∷ rest) → (u : List ℕ) × Printed u × (R ≡ inner u (39 ∷ rest)) × (w ≡ t ++ u)
@@ -228,22 +222,19 @@ text_none X h = record {
 }
   where
     go : (Y : List ℕ) → X ≡ Y → (R : List ℕ) → SameHead Y R → (w rest : List ℕ) → R ≡ 39 ∷ inner w (39 ∷ rest) → ⊥
-    go [] g [] s w rest e = let z : ◌≡◌ {A = ℕ} 0 1 = cc in omega arith
+    go [] g [] s w rest e = cc
     go [] g (d ∷ R) s w rest e = s
     go (c ∷ Y) g [] s w rest e = s
     go (c ∷ Y) g (d ∷ R) s w rest e = h Y (cc)
 
 -- ---- the codes of the text that stands at a place
 
-pub unquotes_ends : (s : List ℕ) (at : ℕ) (t : List ℕ) (i : ℕ) → Reading s at t i → drop i s ≡ 39 ∷ drop (i + 1) s → NoQuote (drop (i + 1) s) → Unquotes s at t
-unquotes_ends s at t i h e k u Y a n f =
+-- no code stands after those that were read
+pub unquotes : (s : List ℕ) (at : ℕ) (t : List ℕ) (i : ℕ) (p : Result (Option (ℕ × ℕ)) ℕ) → Reading s at t i → Stands s i p → ((q : ℕ × ℕ) → p ≢ Ok (Some q)) → Unquotes s at t
+unquotes s at t i (Ok (Some q)) h k n u Y a m f = absurd (n q refl)
+unquotes s at t i (Ok None) h k n u Y a m f =
     let g = h.shows in
-    (text_same t u (drop (i + 1) s) Y k n (cc)).0
-
-pub unquotes_fails : (s : List ℕ) (at : ℕ) (t : List ℕ) (i : ℕ) (back : List ℕ) → Reading s at t i → NoEnd (drop i s) back → Unquotes s at t
-unquotes_fails s at t i back h n u Y a k f =
-    let x = reading_fails s at t i back h n in
-    absurd (x.stop back (same_head_self back) u Y a k (sym x.splits ∙ f))
-
-pub unquotes_none : (s : List ℕ) (at : ℕ) (t : List ℕ) → ((rest : List ℕ) → drop at s ≡ 39 ∷ rest → ⊥) → Unquotes s at t
-unquotes_none s at t h u Y a k f = absurd (h _ f)
+    (text_same t u (drop (i + 1) s) Y k.2 m (cc)).0
+unquotes s at t i (Err b) h k n u Y a m f =
+    let x = reading_fails s at t i (drop b s) h k.2 in
+    absurd (x.stop (drop b s) (same_head_self (drop b s)) u Y a m (sym x.splits ∙ f))

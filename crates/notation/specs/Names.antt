@@ -1,5 +1,6 @@
 -- Names: a small letter, and then small letters, digits and single quotes.
 use Rattle.std.specs.Prelude.{◌≡◌, ℕ, ◌+◌, Bool, true, false, cond, ◌&&◌, ◌||◌, List, [], ◌∷◌, length, ◌==◌, nat_le}
+use Rattle.std.specs.List.{prefix_len}
 
 abbrev pub letter : ℕ → Bool
 letter c = nat_le 97 c && nat_le c 122
@@ -23,10 +24,6 @@ abbrev pub name_fits : List ℕ → Bool
 name_fits n = nat_le (length n) 16
 
 -- how many bytes at the front are a name's
-abbrev pub run : List ℕ → ℕ
-run [] = 0
-run (c ∷ s) = cond (name_code c) (1 + run s) 0
-
 abbrev pub name_front : List ℕ → ℕ
 name_front [] = 0
-name_front (c ∷ s) = cond (letter c) (1 + run s) 0
+name_front (c ∷ s) = cond (letter c) (1 + prefix_len name_code s) 0

@@ -1,7 +1,5 @@
 -- Reading texts: what stands at a place, and what is left after it.
-use Rattle.std.specs.Prelude.{◌≡◌, ℕ, ◌+◌, ◌<◌, ◌≤◌, Bool, true, List, [], ◌∷◌, length, drop, Ok, Err, Result}
-use Rattle.notation.specs.declared.texts.Piece.{Piece}
-use Rattle.notation.specs.declared.texts.Piece.TheVariants.{Close, Code, Wrong}
+use Rattle.std.specs.Prelude.{◌≡◌, ℕ, ◌+◌, ◌<◌, ◌≤◌, Bool, true, List, [], ◌∷◌, length, drop, Some, None, Ok, Err, Option, Result}
 use Rattle.reading.specs.declared.word.Word.{Word}
 use Rattle.reading.specs.Reading.{Stuck}
 use Rattle.notation.specs.Texts.{step, inner, Printed, text_fits}
@@ -16,11 +14,11 @@ NoQuote (c ∷ cs) = c ≡ 39 → ⊥
 abbrev pub NoEnd : List ℕ → List ℕ → Type 0
 NoEnd X back = Stuck Printed (λ t rest. inner t (39 ∷ rest)) NoQuote X back
 
--- what stands next in a text
-abbrev pub Stands : List ℕ → ℕ → Piece → Type 0
-Stands s i Close = (i < length s) × (drop i s ≡ 39 ∷ drop (i + 1) s) × NoQuote (drop (i + 1) s)
-Stands s i (Code c end) = (i < end) × (end ≤ length s) × (drop i s ≡ step c (drop end s)) × (printable c ≡ true)
-Stands s i (Wrong k) = (i ≤ k) × (i ≤ length s → k ≤ length s) × NoEnd (drop i s) (drop k s)
+-- what stands next in a text: a code with the place after it, or its end, or the place of the first byte that no text has there
+abbrev pub Stands : List ℕ → ℕ → Result (Option (ℕ × ℕ)) ℕ → Type 0
+Stands s i (Ok (Some p)) = (i < p.1) × (p.1 ≤ length s) × (drop i s ≡ step p.0 (drop p.1 s)) × (printable p.0 ≡ true)
+Stands s i (Ok None) = (i < length s) × (drop i s ≡ 39 ∷ drop (i + 1) s) × NoQuote (drop (i + 1) s)
+Stands s i (Err k) = (i ≤ k) × (i ≤ length s → k ≤ length s) × NoEnd (drop i s) (drop k s)
 
 -- X begins with a text of n characters, and Y is what follows
 pub record GotText (X : List ℕ) (n : ℕ) (fits : Bool) (Y : List ℕ) : Type 0 where

@@ -1,5 +1,6 @@
-ghost use Rattle.std.specs.Prelude.{◌≡◌};
-ghost use Rattle.notation.specs.Names.{letter, name_code, name_front, name_fits, NameForm};
+ghost use Rattle.std.specs.Prelude.{◌≡◌, ◌≤◌, length};
+ghost use Rattle.std.specs.List.{prefix_len};
+ghost use Rattle.notation.specs.Names.{name_code, name_front, name_fits, NameForm};
 ghost use Rattle.reading.specs.Reading.{Answer};
 
 use reading::Fault;
@@ -11,11 +12,8 @@ const LENGTH_LIMIT: usize = 16;
 pub fn check_name(s: &[u8]) -> Result<(), Fault>
     ensures { Answer NameForm name_fits (λ _ _. Unit {0}) s.now result }
 {
-    if s.is_empty() {
-        return Err(Fault::Syntax { byte: 0 });
-    }
     let byte = front(s);
-    if byte < s.len() {
+    if byte == 0 || byte < s.len() {
         return Err(Fault::Syntax { byte });
     }
     if s.len() > LENGTH_LIMIT {
@@ -28,30 +26,22 @@ pub fn check_name(s: &[u8]) -> Result<(), Fault>
 fn front(s: &[u8]) -> usize
     ensures { result ≡ name_front s.now }
 {
-    if s.is_empty() || !is_letter(s[0]) {
-        return 0;
+    match s {
+        [first, rest @ ..] if first.is_ascii_lowercase() => 1 + run(rest),
+        _ => 0,
     }
-    let mut i = 1;
-    while i < s.len() && is_name_code(s[i]) {
-        i += 1;
-    }
-    i
 }
 
-fn is_letter(code: u8) -> bool
-    ensures { result ≡ letter code }
+// How many bytes at the front are small letters, digits and single quotes.
+fn run(s: &[u8]) -> usize
+    ensures value { result ≡ prefix_len name_code s.now }
+    ensures within { result ≤ length s.now }
 {
-    match code {
-        b'a'..=b'z' => true,
-        _ => false,
-    }
+    s.iter().take_while(|code| is_name_code(**code)).count()
 }
 
 fn is_name_code(code: u8) -> bool
     ensures { result ≡ name_code code }
 {
-    match code {
-        b'a'..=b'z' | b'0'..=b'9' | b'\'' => true,
-        _ => false,
-    }
+    matches!(code, b'a'..=b'z' | b'0'..=b'9' | b'\'')
 }

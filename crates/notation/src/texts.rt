@@ -9,23 +9,13 @@ use std::alloc::{AllocError, Global};
 // The most characters that a text may have.
 const LENGTH_LIMIT: usize = 255;
 
-// What stands next in a text: its end, a code with the place after it, or what no text has, with the place of the first
-// wrong byte.
-#[derive(Clone, Copy)]
-pub enum Piece {
-    Close,
-    Code(u8, usize),
-    Wrong(usize),
-}
-
 // The number of characters of the text whose display this is.
 pub fn check_text(s: &[u8]) -> Result<usize, Fault>
     ensures { Answer TextForm text_fits (λ t n. n ≡ length t) s.now result }
 {
-    match text_at(s, 0) {
-        Ok(text) => text.whole(s),
-        Err(byte) => Err(Fault::Syntax { byte }),
-    }
+    text_at(s, 0)
+        .map_err(|byte| Fault::Syntax { byte })?
+        .whole(s)
 }
 
 // The number of characters of the text whose display stands at a place; else the place of the first wrong byte.
@@ -37,20 +27,15 @@ pub fn text_at(s: &[u8], at: usize) -> Result<Word<usize>, usize>
     }
     let mut count = 0;
     let mut i = at + 1;
-    loop {
-        match piece_at(s, i) {
-            Piece::Close => return Ok(Word {
-                value: count,
-                fits: count <= LENGTH_LIMIT,
-                end: i + 1,
-            }),
-            Piece::Code(_, end) => {
-                count += 1;
-                i = end;
-            }
-            Piece::Wrong(place) => return Err(place),
-        }
+    while let Some((_, end)) = piece_at(s, i)? {
+        count += 1;
+        i = end;
     }
+    Ok(Word {
+        value: count,
+        fits: count <= LENGTH_LIMIT,
+        end: i + 1,
+    })
 }
 
 // The codes of the text whose display stands at a place.
@@ -62,30 +47,23 @@ pub fn unquote(heap: Global, s: &[u8], at: usize) -> Result<Vec<u8>, AllocError>
         return Ok(codes);
     }
     let mut i = at + 1;
-    loop {
-        match piece_at(s, i) {
-            Piece::Close => return Ok(codes),
-            Piece::Code(code, end) => {
-                codes.push(code)?;
-                i = end;
-            }
-            Piece::Wrong(_) => return Ok(codes),
-        }
+    while let Ok(Some((code, end))) = piece_at(s, i) {
+        codes.push(code)?;
+        i = end;
     }
+    Ok(codes)
 }
 
-fn piece_at(s: &[u8], i: usize) -> Piece
+// What stands next in a text: a code with the place after it, or its end; else the place of the first byte that no text has there.
+fn piece_at(s: &[u8], i: usize) -> Result<Option<(u8, usize)>, usize>
     ensures { Stands s.now i result }
 {
-    match byte_at(s, i) {
-        None => Piece::Wrong(i),
-        Some(b) => match b {
-            b'\'' if begins(s, i + 1, b'\'') => Piece::Code(b, i + 2),
-            b'\'' => Piece::Close,
-            b'`' if begins(s, i + 1, b'`') => Piece::Code(b, i + 2),
-            b'`' => Piece::Wrong(i + 1),
-            32..=126 => Piece::Code(b, i + 1),
-            _ => Piece::Wrong(i),
-        },
+    let code = byte_at(s, i).ok_or(i)?;
+    match code {
+        b'\'' | b'`' if begins(s, i + 1, code) => Ok(Some((code, i + 2))),
+        b'\'' => Ok(None),
+        b'`' => Err(i + 1),
+        b' '..=b'~' => Ok(Some((code, i + 1))),
+        _ => Err(i),
     }
 }

@@ -1,25 +1,20 @@
-use Rattle.std.proofs.Common.{◌≡◌, false, arith}
+use Rattle.std.proofs.Common.{arith, rules}
 use Rattle.notation.proofs.Quoting.{end_none, end_byte, end_back}
 use Rattle.notation.proofs.texts.piece_at.Goals as goal
 use Rattle.std.proofs.lemmas.Bool.Decides.{nat_tests}
-use Rattle.types.specs.Types.{printable}
 
-pub returns-in-None : goal.returns-in-None
-returns-in-None c = (omega arith, λ h. h, end_none _ c.in-None.ensures)
+pub returns-in_err-code : goal.returns-in_err-code
+returns-in_err-code c = search (rules, end_none)
 
-pub returns-in-96-2 : goal.returns-in-96-2
-returns-in-96-2 c =
-    let e = c.in-Some.ensures in
-    let i = c.in-96.is in
-    let f = e.1 in
-    (omega arith, λ h. omega (arith, e.0), end_back _ _ (cc) c.if-begins-2.ensures)
+pub returns-in-96 : goal.returns-in-96
+returns-in-96 c = search (rules, end_back)
 
-pub returns-in_default : goal.returns-in_default
-returns-in_default c =
-    let n : printable c.in-Some.b ≡ false = grind (arith, nat_tests) in
-    (omega arith, λ h. h, end_byte _ _ _ c.in-Some.ensures.1 n)
+pub returns-in_default-3 : goal.returns-in_default-3
+returns-in_default-3 c =
+    let here = rw c.in_ok-code.ensures.ok_part at c.byte_at.ensures in
+    (omega arith, λ h. h, end_byte _ _ _ here.1 (grind (arith, nat_tests)))
 
-pub returns-in_default-2 : goal.returns-in_default-2
-returns-in_default-2 c =
-    let n : printable c.in-Some.b ≡ false = grind (arith, nat_tests) in
-    (omega arith, λ h. h, end_byte _ _ _ c.in-Some.ensures.1 n)
+pub returns-in_default-4 : goal.returns-in_default-4
+returns-in_default-4 c =
+    let here = rw c.in_ok-code.ensures.ok_part at c.byte_at.ensures in
+    (omega arith, λ h. h, end_byte _ _ _ here.1 (grind (arith, nat_tests)))

@@ -1,25 +1,20 @@
-use Rattle.std.proofs.Common.{[], ◌∷◌, ◌++◌, refl, arith, length-append, rules}
-use Rattle.notation.proofs.Quoting.{reading_starts, reading_more, reading_fails, text_none}
+use Rattle.std.proofs.Common.{◌∷◌, ◌++◌, [], arith, length-append, rules}
+use Rattle.std.proofs.lemmas.Result.{err_from_is_err_and}
+use Rattle.notation.proofs.Quoting.{reading_more, reading_fails, text_none}
 use Rattle.notation.proofs.texts.text_at.Goals as goal
 
-pub overflow_add-count : goal.overflow_add-count
-overflow_add-count c =
-    let i = c.loop-end.invariant in
-    search (rules, i.1.low, i.1.high, i.2)
+pub returns-then-not-begins : goal.returns-then-not-begins
+returns-then-not-begins c = search (rules, text_none)
 
-pub loop-end-init : goal.loop-end-init
-loop-end-init c = ([], reading_starts _ _ c.if-not-begins.ensures, refl)
+pub returns-in_err-end : goal.returns-in_err-end
+returns-in_err-end c =
+    let p = err_from_is_err_and c.from_residual.result c.from_residual.ensures.1 in
+    let i = c.loop-end.invariant.1 in
+    let k = c.in_err-end.ensures in
+    rw (p.1, p.2) (omega (arith, i.low, k.0), λ h. k.1 i.high, reading_fails _ _ _ _ _ i k.2)
 
 pub loop-end-preserved : goal.loop-end-preserved
 loop-end-preserved c =
     let i = c.loop-end.invariant in
-    (i.0 ++ (c.in-Code.field-0 ∷ []), reading_more _ _ i.0 _ _ _ i.1 c.in-Code.ensures, simp length-append (omega (arith, i.2)))
-
-pub returns-then-not-begins : goal.returns-then-not-begins
-returns-then-not-begins c = (omega arith, λ h. h, text_none _ c.if-not-begins.ensures)
-
-pub returns-in-Wrong : goal.returns-in-Wrong
-returns-in-Wrong c =
-    let i = c.loop-end.invariant in
-    let k = c.in-Wrong.ensures in
-    (omega (arith, i.1.low, k.0), λ h. k.1 i.1.high, reading_fails _ _ _ _ _ i.1 k.2)
+    let k = rw c.in-Some.is at c.in_ok-end.ensures in
+    (i.0 ++ (c.in-Some.field-0-0 ∷ []), reading_more _ _ _ _ _ _ i.1 k, simp length-append (omega (arith, i.2)))

@@ -1,15 +1,15 @@
-use Rattle.std.proofs.Common.{◌≡◌, ℕ, List, [], ◌∷◌, ◌++◌, vec_items, sym, subst, rules}
-use Rattle.notation.proofs.Quoting.{Reading, reading_more, unquotes_ends, unquotes_fails}
+use Rattle.std.proofs.Common.{◌≡◌, ◌++◌, ◌∷◌, [], rules}
+use Rattle.notation.proofs.Quoting.{reading_more, unquotes}
 use Rattle.notation.proofs.texts.unquote.Goals as goal
+use Rattle.notation.proofs.texts.unquote.Goals.{in_default, in_default-2}
 
-pub loop-codes-preserved : goal.loop-codes-preserved
-loop-codes-preserved c =
-    let e : vec_items c.push.new.self ≡ vec_items c.loop-codes.codes ++ (c.in-Code.code ∷ []) = search rules in
-    subst (λ (x : List ℕ). Reading c.args.s.now c.args.at x c.in-Code.end) (sym e)
-    (reading_more _ _ (vec_items c.loop-codes.codes) _ _ _ c.loop-codes.invariant c.in-Code.ensures)
+pub loop-code-preserved : goal.loop-code-preserved
+loop-code-preserved c =
+    let e : c.push.new.self.items ≡ c.loop-code.codes.items ++ (c.in-Ok-Some.code ∷ []) = search rules in
+    rw e (reading_more _ _ _ _ _ _ c.loop-code.invariant (rw c.in-Ok-Some.field-0-is at c.in-Ok-Some.ensures))
 
-pub returns-in-Close : goal.returns-in-Close
-returns-in-Close c = let k = c.in-Close.ensures in unquotes_ends _ _ _ _ c.loop-codes.invariant k.1 k.2
-
-pub returns-in-Wrong : goal.returns-in-Wrong
-returns-in-Wrong c = unquotes_fails _ _ _ _ _ c.loop-codes.invariant c.in-Wrong.ensures.2
+pub returns : goal.returns
+returns c = unquotes _ _ _ _ _ c.loop-code.invariant c.piece_at.ensures (elim c.match-piece_at.branch [
+  | in_default w ↦ λ q e. cc
+  | in_default-2 w ↦ λ q e. cc
+])
