@@ -33,14 +33,14 @@ nat_one d h k =
 pub nat_more : (n d : ℕ) → 0 < n → d < 10 → nat (n * 10 + d) ≡ nat n ++ ((48 + d) ∷ [])
 nat_more n d h k = nat_pos (n * 10 + d) (omega arith) ∙ digit_more n d h k ∙ ap (λ x. x ++ ((48 + d) ∷ [])) (sym (nat_pos n h))
 
-pub keeps : (m d : ℕ) (v : ℤ) (fits : Bool) → Capped m v fits → d < 10 → fits ≡ true → v ≤ℤ pos 99999999 → Capped (m * 10 + d) (v *ℤ pos 10 +ℤ pos d) fits
+keeps : (m d : ℕ) (v : ℤ) (fits : Bool) → Capped m v fits → d < 10 → fits ≡ true → v ≤ℤ pos 99999999 → Capped (m * 10 + d) (v *ℤ pos 10 +ℤ pos d) fits
 keeps m d v fits h k t l =
     let a : leb m 999999999 ≡ true = sym h.within ∙ t in
     let b : m ≤ 999999999 = grind (arith, nat_tests) in
     let e = h.means b in
     record { within = grind (arith, nat_tests); means = λ g. omega (arith, ints); positive = omega (arith, ints, h.positive); small = omega (arith, ints) }
 
-pub loses : (m d : ℕ) (v : ℤ) (fits : Bool) → Capped m v fits → (fits ≡ false) ⊎ (pos 99999999 <ℤ v) → Capped (m * 10 + d) v false
+loses : (m d : ℕ) (v : ℤ) (fits : Bool) → Capped m v fits → (fits ≡ false) ⊎ (pos 99999999 <ℤ v) → Capped (m * 10 + d) v false
 loses m d v fits h o =
     let big : 99999999 < m = elim (leb_tells m 999999999) [ inl x ↦ go x o | inr x ↦ omega (arith, x.1) ] in
     record { within = grind (arith, nat_tests); means = λ g. absurd (omega arith); positive = h.positive; small = h.small }
@@ -139,7 +139,7 @@ zero_more s at (Some d) h k e = nat_zero _ _ _ 48 d h.1 refl k.1 k.2
 
 -- ---- a number with a sign
 
-pub same_head_front : (X front back R : List ℕ) → X ≡ front ++ back → SameHead back R → SameHead X (front ++ R)
+same_head_front : (X front back R : List ℕ) → X ≡ front ++ back → SameHead back R → SameHead X (front ++ R)
 same_head_front X [] back R e h = subst (λ (Y : List ℕ). SameHead Y R) (sym e) h
 same_head_front X (c ∷ front) back R e h = subst (λ (Y : List ℕ). SameHead Y (c ∷ (front ++ R))) (sym e) refl
 

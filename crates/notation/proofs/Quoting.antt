@@ -2,6 +2,7 @@
 use Rattle.std.proofs.Common.{◌≡◌, ℕ, ◌+◌, ◌<◌, ◌≤◌, Bool, true, false, cond, List, [], ◌∷◌, ◌++◌, length, drop, Some, None, Ok, Err, Option, Result, ◌≢◌, sym, refl, ap, ◌∙◌, subst, append-nil, arith, length-append}
 use Rattle.reading.proofs.Whole.{Readable, same_head_self}
 use Rattle.notation.specs.Quotes.{NoQuote, NoEnd, Stands, NoText, Unquotes}
+use Rattle.reading.specs.Bytes.{Byte}
 use Rattle.reading.specs.Reading.{SameHead}
 use Rattle.notation.specs.Texts.{twice, step, inner, Printed, TextForm}
 use Rattle.std.proofs.lemmas.Bool.{and_parts, and_from}
@@ -39,7 +40,7 @@ inner_append : (t u X : List ℕ) → inner (t ++ u) X ≡ inner t (inner u X)
 inner_append [] u X = refl
 inner_append (c ∷ t) u X = ap (step c) (inner_append t u X)
 
-pub printed_append : (t u : List ℕ) → Printed t → Printed u → Printed (t ++ u)
+printed_append : (t u : List ℕ) → Printed t → Printed u → Printed (t ++ u)
 printed_append [] u h k = k
 printed_append (c ∷ t) u h k = let p = and_parts (printable c) (printables t) h in and_from (printable c) (printables (t ++ u)) p.0 (printed_append t u p.1 k)
 
@@ -75,20 +76,20 @@ peel (c ∷ out) (d ∷ t) rest X h e =
     let b = k.1 in
     (k.0, cc, k.2)
 
-pub text_same : (s t r q : List ℕ) → NoQuote r → NoQuote q → inner s (39 ∷ r) ≡ inner t (39 ∷ q) → (s ≡ t) × (r ≡ q)
+text_same : (s t r q : List ℕ) → NoQuote r → NoQuote q → inner s (39 ∷ r) ≡ inner t (39 ∷ q) → (s ≡ t) × (r ≡ q)
 text_same s t r q h k e = let p = peel s t q (39 ∷ r) k e in go p.0 p.1 p.2
   where
     go : (u : List ℕ) → t ≡ s ++ u → 39 ∷ r ≡ inner u (39 ∷ q) → (s ≡ t) × (r ≡ q)
     go [] a b = let n = append-nil s in (cc, cc)
     go (c ∷ u) a b = absurd (not_end c (inner u (39 ∷ q)) r h b)
 
-pub no_quote_head : (Y R : List ℕ) → SameHead Y R → NoQuote Y → NoQuote R
+no_quote_head : (Y R : List ℕ) → SameHead Y R → NoQuote Y → NoQuote R
 no_quote_head [] [] h n = tt
 no_quote_head [] (d ∷ R) h n = elim h [ ]
 no_quote_head (c ∷ Y) [] h n = elim h [ ]
 no_quote_head (c ∷ Y) (d ∷ R) h n = λ e. n (h ∙ e)
 
-pub text_joins : (t rest : List ℕ) → 39 ∷ inner t (39 ∷ rest) ≡ (39 ∷ inner t (39 ∷ [])) ++ rest
+text_joins : (t rest : List ℕ) → 39 ∷ inner t (39 ∷ rest) ≡ (39 ∷ inner t (39 ∷ [])) ++ rest
 text_joins t rest = ap (λ x. 39 ∷ x) (inner_joins t (39 ∷ []) rest)
 
 pub text_readable : Readable Printed (λ t rest. 39 ∷ inner t (39 ∷ rest)) NoQuote TextForm
@@ -120,7 +121,7 @@ end_none X e = record {
     go [] s (c ∷ w) rest f = let p = step_some c (inner w (39 ∷ rest)) in let q = p.1 in cc
     go (d ∷ R) s w rest f = s
 
-pub end_byte : (X Z : List ℕ) (b : ℕ) → X ≡ b ∷ Z → printable b ≡ false → NoEnd X X
+end_byte : (X Z : List ℕ) (b : ℕ) → X ≡ b ∷ Z → printable b ≡ false → NoEnd X X
 end_byte X Z b e n = record {
   front = [];
   splits = refl;
@@ -143,6 +144,10 @@ end_byte X Z b e n = record {
         let i : b ≡ c = cc in
         let j = sym n ∙ ap printable i ∙ (and_parts (printable c) (printables w) a).0 in
         cc
+
+pub unprintable : (s : List ℕ) (i b : ℕ) (o : Option ℕ) → Byte s i o → o ≡ Some b → printable b ≡ false → Stands s i (Err i)
+unprintable s i b None h e n = absurd (cc)
+unprintable s i b (Some c) h e n = let d : c ≡ b = cc in (omega arith, λ l. l, end_byte _ _ c h.1 (ap printable d ∙ n))
 
 -- a back quote that is not doubled
 pub end_back : (X Z : List ℕ) → X ≡ 96 ∷ Z → ((rest : List ℕ) → Z ≡ 96 ∷ rest → ⊥) → NoEnd X Z
@@ -171,10 +176,6 @@ end_back X Z e n = record {
         let i : c ≡ 96 = cc in
         let g = step_twice c (inner w (39 ∷ rest)) (ap twice i) in
         doubled R s (inner w (39 ∷ rest)) (cc)
-
-pub ends : (Y : List ℕ) → ((rest : List ℕ) → Y ≡ 39 ∷ rest → ⊥) → NoQuote Y
-ends [] h = tt
-ends (c ∷ Y) h = λ e. h Y (ap (λ x. x ∷ Y) e)
 
 -- ---- a text is being read: its codes up to the place i are t
 

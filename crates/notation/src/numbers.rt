@@ -94,10 +94,6 @@ fn digits_len(s: &[u8]) -> usize
 fn digit_at(s: &[u8], at: usize) -> Option<u8>
     ensures { DigitAt s.now at result }
 {
-    let code = byte_at(s, at)?;
-    if code.is_ascii_digit() {
-        Some(code - b'0')
-    } else {
-        None
-    }
+    let code = byte_at(s, at).filter(|code| code.is_ascii_digit())?;
+    Some(code - b'0')
 }

@@ -1,5 +1,5 @@
 use Rattle.std.proofs.Common.{arith, rules}
-use Rattle.notation.proofs.Quoting.{end_none, end_byte, end_back}
+use Rattle.notation.proofs.Quoting.{end_none, end_back, unprintable}
 use Rattle.notation.proofs.texts.piece_at.Goals as goal
 use Rattle.std.proofs.lemmas.Bool.Decides.{nat_tests}
 
@@ -10,11 +10,7 @@ pub returns-in-96 : goal.returns-in-96
 returns-in-96 c = search (rules, end_back)
 
 pub returns-in_default-3 : goal.returns-in_default-3
-returns-in_default-3 c =
-    let here = rw c.in_ok-code.ensures.ok_part at c.byte_at.ensures in
-    (omega arith, λ h. h, end_byte _ _ _ here.1 (grind (arith, nat_tests)))
+returns-in_default-3 c = unprintable _ _ _ _ c.byte_at.ensures c.in_ok-code.ensures.ok_part (grind (arith, nat_tests))
 
 pub returns-in_default-4 : goal.returns-in_default-4
-returns-in_default-4 c =
-    let here = rw c.in_ok-code.ensures.ok_part at c.byte_at.ensures in
-    (omega arith, λ h. h, end_byte _ _ _ here.1 (grind (arith, nat_tests)))
+returns-in_default-4 c = unprintable _ _ _ _ c.byte_at.ensures c.in_ok-code.ensures.ok_part (grind (arith, nat_tests))
