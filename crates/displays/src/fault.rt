@@ -6,7 +6,7 @@ use reading::Fault;
 use std::alloc::{AllocError, AllocFailed};
 
 // Why a display is refused.
-#[derive(Clone, Copy, PartialEq, Debug)]
+#[derive(Clone, Copy, PartialEq, Eq, Debug)]
 pub enum DisplayFault {
     // Of no right form, limits aside: the longest beginning that some right form shares ends at this byte.
     Syntax { byte: usize },

@@ -7,7 +7,7 @@ use reading::Fault;
 use std::alloc::{AllocError, AllocFailed};
 
 // Why a sheet is denied.
-#[derive(Clone, Copy, PartialEq, Debug)]
+#[derive(Clone, Copy, PartialEq, Eq, Debug)]
 pub enum SheetFault {
     // The input is longer than the limit.
     TooLong,
