@@ -1,4 +1,4 @@
-ghost use Rattle.std.specs.Prelude.{true, ◌++◌};
+ghost use Rattle.std.specs.Prelude.{true, ◌∷◌, ◌++◌};
 ghost use Rattle.notation.specs.Numbers.{nat, int};
 ghost use Rattle.notation.specs.Texts.{step, inner};
 ghost use Rattle.values.specs.Means.{val, vals, pairs};
@@ -20,25 +20,17 @@ pub(crate) fn write_value<S: Sink>(sink: &mut S, value: &Value)
             write_codes(sink, codes);
             sink.put(b'\'');
         }
-        Value::Compound(row) => {
-            sink.put(b'(');
-            write_items(sink, row, b',', b')');
-        }
-        Value::List(row) => {
-            sink.put(b'{');
-            write_items(sink, row, b';', b'}');
-        }
-        Value::Table(entries) => {
-            sink.put(b'{');
-            write_entries(sink, entries);
-        }
+        Value::Compound(row) => write_items(sink, row, b'(', b',', b')'),
+        Value::List(row) => write_items(sink, row, b'{', b';', b'}'),
+        Value::Table(entries) => write_entries(sink, entries),
     }
 }
 
 #[cycle(write)]
-fn write_items<S: Sink>(sink: &mut S, row: &[Value], sep: u8, close: u8)
-    ensures { Takes S.after sink.old (shown_items (vals row.now) true sep close) sink.new }
+fn write_items<S: Sink>(sink: &mut S, row: &[Value], start: u8, sep: u8, close: u8)
+    ensures { Takes S.after sink.old (λ rest. start ∷ shown_items (vals row.now) true sep close rest) sink.new }
 {
+    sink.put(start);
     for (index, item) in row.iter().enumerate() {
         write_parting(sink, index == 0, sep);
         write_value(sink, item);
@@ -48,8 +40,9 @@ fn write_items<S: Sink>(sink: &mut S, row: &[Value], sep: u8, close: u8)
 
 #[cycle(write)]
 fn write_entries<S: Sink>(sink: &mut S, entries: &[Entry])
-    ensures { Takes S.after sink.old (shown_entries (pairs entries.now) true) sink.new }
+    ensures { Takes S.after sink.old (λ rest. 123 ∷ shown_entries (pairs entries.now) true rest) sink.new }
 {
+    sink.put(b'{');
     for (index, entry) in entries.iter().enumerate() {
         write_parting(sink, index == 0, b';');
         sink.put(b'[');
