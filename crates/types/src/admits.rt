@@ -3,7 +3,7 @@ ghost use Rattle.types.specs.Model.{ty_of, tys_of};
 ghost use Rattle.types.specs.Types.{of, formed, each_formed, all_formed, pairs_formed, ascending, ascending_keys, bounded, printable, printables};
 ghost use Rattle.values.specs.Means.{val, vals, pairs};
 
-use crate::value_type::ValueType;
+use crate::value_type::{Sides, ValueType};
 use values::{Entry, HasSize, Value};
 
 // The highest number; the lowest is its opposite.
@@ -44,7 +44,7 @@ fn is_formed(value: &Value, expected: &ValueType) -> bool
         },
         Value::Table(entries) => match expected {
             ValueType::Table(sides) => has_ascending_keys(entries)
-                && are_pairs_formed(entries, &sides.key, &sides.associate),
+                && are_pairs_formed(entries, sides),
             ValueType::Number | ValueType::Text | ValueType::Compound(_) | ValueType::List(_) =>
                 false,
         },
@@ -79,11 +79,11 @@ fn are_all_formed(row: &[Value], item: &ValueType) -> bool
 }
 
 #[cycle(formed)]
-fn are_pairs_formed(entries: &[Entry], key: &ValueType, associate: &ValueType) -> bool
-    ensures { result ≡ pairs_formed (pairs entries.now) (ty_of key.now) (ty_of associate.now) }
+fn are_pairs_formed(entries: &[Entry], sides: &Sides) -> bool
+    ensures { result ≡ pairs_formed (pairs entries.now) (ty_of sides.now.key) (ty_of sides.now.associate) }
 {
     for entry in entries {
-        if !is_formed(&entry.key, key) || !is_formed(&entry.associate, associate) {
+        if !is_formed(&entry.key, &sides.key) || !is_formed(&entry.associate, &sides.associate) {
             return false;
         }
     }
@@ -93,7 +93,7 @@ fn are_pairs_formed(entries: &[Entry], key: &ValueType, associate: &ValueType) -
 fn is_bounded(n: i32) -> bool
     ensures { result ≡ bounded n }
 {
-    -BOUND <= n && n <= BOUND
+    (-BOUND..=BOUND).contains(&n)
 }
 
 fn are_printable(codes: &[u8]) -> bool

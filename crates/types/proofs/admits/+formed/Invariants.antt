@@ -10,7 +10,7 @@ invariant-are_all_formed-loop-value l = all_formed (vals (drop l.value-index l.r
 
 abbrev pub invariant-are_pairs_formed-loop-entry : goal.invariant-are_pairs_formed-loop-entry
 invariant-are_pairs_formed-loop-entry l =
-    pairs_formed (pairs (drop l.entry-index l.entries)) (ty_of l.key) (ty_of l.associate) ≡ pairs_formed (pairs l.entries) (ty_of l.key) (ty_of l.associate)
+    pairs_formed (pairs (drop l.entry-index l.entries)) (ty_of l.sides.key) (ty_of l.sides.associate) ≡ pairs_formed (pairs l.entries) (ty_of l.sides.key) (ty_of l.sides.associate)
 
 abbrev pub invariant-is_each_formed-loop-value : goal.invariant-is_each_formed-loop-value
 invariant-is_each_formed-loop-value l = record {
