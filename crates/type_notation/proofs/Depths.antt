@@ -1,5 +1,5 @@
 -- How deep types nest, read off their text.
-use Rattle.std.proofs.Common.{◌≡◌, ℕ, ◌+◌, ◌-◌, max, true, List, [], ◌++◌, drop, sym, refl, ap, ◌∙◌, append_assoc, append-nil, arith}
+use Rattle.std.proofs.Common.{◌≡◌, ℕ, ◌+◌, max, true, List, [], ◌++◌, drop, sym, refl, ap, ◌∙◌, append_assoc, append-nil, arith}
 use Rattle.reading.proofs.Whole.{same_head_self}
 use Rattle.std.proofs.lemmas.Bool.{and_parts, and_from}
 use Rattle.type_notation.proofs.Prefixes.{shape_of, parts_of, shape_parts, shape_counts, shape_sound, shape_same}
@@ -25,9 +25,9 @@ nests_wrong s at n back some h ts rest c r e =
     absurd (some (h.stop back (same_head_self back) n rest (record { types = ts; counts = c; right = r; shows = sym h.splits ∙ e })))
 
 -- the types under the first, and then the others
-pub nests_more : (s : List ℕ) (at n : ℕ) (h : Shape) (middle a b deep end' m : ℕ) → drop at s ≡ shape_text h ++ drop middle s → Nests s middle (arity h) deep b → Nests s b (n - 1) m end' → a ≡ max m (deep + 1) → (n ≡ 0 → ⊥) → Nests s at n a end'
-nests_more s at n h middle a b deep end' m e inner others f some end rest c r g = absurd (some (sym c))
-nests_more s at n h middle a b deep end' m e inner others f some (also u us) rest c r g =
+pub nests_more : (s : List ℕ) (at n k : ℕ) (h : Shape) (middle b deep end' m : ℕ) → drop at s ≡ shape_text h ++ drop middle s → Nests s middle (arity h) deep b → n ≡ k + 1 → Nests s b k m end' → Nests s at n (max (deep + 1) m) end'
+nests_more s at n k h middle b deep end' m e inner z others end rest c r g = absurd (omega arith)
+nests_more s at n k h middle b deep end' m e inner z others (also u us) rest c r g =
     let q = and_parts (sound u) (sounds us) r in
     let t : type_texts (also u us) ++ rest ≡ shape_text (shape_of u) ++ (type_texts (parts_of u) ++ (type_texts us ++ rest)) =
     append_assoc (type_text u) (type_texts us) rest ∙ ap (λ x. x ++ (type_texts us ++ rest)) (shape_parts u) ∙ append_assoc (shape_text (shape_of u)) (type_texts (parts_of u)) (type_texts us ++ rest) in

@@ -62,18 +62,16 @@ fn deepest(s: &[u8], at: usize, count: u8) -> Nesting
     ensures high { at ≤ length s.now → result.end ≤ length s.now }
     ensures nests { Nests s.now at count result.depth result.end }
 {
-    if count == 0 {
-        return Nesting { depth: 0, end: at };
+    let mut nesting = Nesting { depth: 0, end: at };
+    for _ in 0..count {
+        let Ok((shape, middle)) = shape_at(s, nesting.end) else {
+            return nesting;
+        };
+        let inner = deepest(s, middle, shape.arity());
+        nesting = Nesting {
+            depth: nesting.depth.max(inner.depth + 1),
+            end: inner.end,
+        };
     }
-    match shape_at(s, at) {
-        Err(_) => Nesting { depth: 0, end: at },
-        Ok((shape, middle)) => {
-            let inner = deepest(s, middle, shape.arity());
-            let others = deepest(s, inner.end, count - 1);
-            Nesting {
-                depth: others.depth.max(inner.depth + 1),
-                end: others.end,
-            }
-        }
-    }
+    nesting
 }
