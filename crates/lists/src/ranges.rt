@@ -17,6 +17,7 @@ pub enum RangeFault {
     Memory,
 }
 
+// Each error enum has its own two impls of want of memory: a derive of them has no `from_gives`, which the contracts of `?` rest on.
 impl From<AllocError> for RangeFault {
     ghost from_gives = { λ _ f. f ≡ Memory };
 

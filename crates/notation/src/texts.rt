@@ -38,7 +38,8 @@ pub fn text_at(s: &[u8], at: usize) -> Result<Word<usize>, usize>
     })
 }
 
-// The codes of the text whose display stands at a place.
+// The codes of the text whose display stands at a place. It goes along the text as `text_at` does, without its fault: an iterator
+// for both would have to keep the place and the fault, and would be longer than the two loops.
 pub fn unquote(heap: Global, s: &[u8], at: usize) -> Result<Vec<u8>, AllocError>
     ensures { IfOk result (λ v. Unquotes s.now at v.items) }
 {

@@ -13,7 +13,8 @@ use std::alloc::Global;
 use type_notation::{build_type, check_type};
 use values::Value;
 
-// Declares the target of a line, and fills it. A line that is denied leaves the targets as they were.
+// Declares the target of a line, and fills it. A line that is denied leaves the targets as they were. That they are in order and
+// sound stands in the clauses: as the invariant of a struct it was tried, and the proof of a declaration did not close.
 pub fn keep_line<'t>(
     heap: Global,
     targets: &mut Vec<Target<'t>>,

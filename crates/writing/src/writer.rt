@@ -38,6 +38,7 @@ fn write_items<S: Sink>(sink: &mut S, row: &[Value], start: u8, sep: u8, close: 
     sink.put(close);
 }
 
+// Beside `write_items`: one loop over a trait for both proves too, and is longer than the two.
 #[cycle(write)]
 fn write_entries<S: Sink>(sink: &mut S, entries: &[Entry])
     ensures { Takes S.after sink.old (λ rest. 123 ∷ shown_entries (pairs entries.now) true rest) sink.new }
