@@ -2,10 +2,11 @@ pub mod Passing
 pub mod Stucks
 pub mod Rows
 pub mod Same
+pub mod Made
 pub mod Steps
 pub mod Standing
-pub mod Weights
 pub mod Values
 pub mod Formed
 pub mod Meant
+pub mod RowAt
 pub mod Fields

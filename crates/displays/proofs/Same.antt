@@ -2,7 +2,7 @@
 use Rattle.std.proofs.Common.{◌≡◌, ℕ, Bool, true, false, List, [], ◌∷◌, ◌++◌, pos, negsuc, sym, refl, ap, ◌∙◌, arith}
 use Rattle.displays.proofs.Rows.{Elements, parted_same, row, row_same}
 use Rattle.displays.specs.Forms.{Typed, Each, Alls, Both, is_number, is_text, is_comp, is_list, is_table, each_end, each_also, alls_none, alls_more, both_empty, both_pair}
-use Rattle.displays.specs.Readers.{After, shown_entry, TypedEntry}
+use Rattle.displays.specs.Kinds.{After, shown_entry, TypedEntry, pairs_of, Kind, values, entries, Types, TypedElement, shown_element, AfterElement}
 use Rattle.lists.proofs.Places.{listed_same}
 use Rattle.notation.proofs.Counting.{number_readable}
 use Rattle.notation.proofs.Numerals.{nat_head}
@@ -88,10 +88,6 @@ pub listed_alls : (t : Ty) (vs : List Val) → AllByRecursion (Typed t) vs → A
 listed_alls t [] h = alls_none
 listed_alls t (v ∷ vs) h = alls_more h.0 (listed_alls t vs h.1)
 
-abbrev pub pairs_of : List Entry → Pairs
-pairs_of [] = empty
-pairs_of (entry k a ∷ es) = pair k a (pairs_of es)
-
 pub both_listed : {t u : Ty} {p : Pairs} → Both t u p → AllByRecursion (TypedEntry t u) (entries_of p)
 both_listed both_empty = tt
 both_listed (both_pair a b c) = ((a, b), both_listed c)
@@ -100,7 +96,7 @@ pub listed_both : (t u : Ty) (es : List Entry) → AllByRecursion (TypedEntry t 
 listed_both t u [] h = both_empty
 listed_both t u (entry k a ∷ es) h = both_pair h.0.0 h.0.1 (listed_both t u es h.1)
 
-pub items_row : (r : Vals) (first : Bool) (rest : List ℕ) → shown_items r first 59 125 rest ≡ row shown first (listed r) rest
+items_row : (r : Vals) (first : Bool) (rest : List ℕ) → shown_items r first 59 125 rest ≡ row shown first (listed r) rest
 items_row none first rest = refl
 items_row (more v r) first rest = ap (λ X. parted first 59 (shown v X)) (items_row r false rest)
 
@@ -108,7 +104,7 @@ pub row_items : (vs : List Val) (first : Bool) (rest : List ℕ) → shown_items
 row_items [] first rest = refl
 row_items (v ∷ vs) first rest = ap (λ X. parted first 59 (shown v X)) (row_items vs false rest)
 
-pub entries_row : (p : Pairs) (first : Bool) (rest : List ℕ) → shown_entries p first rest ≡ row shown_entry first (entries_of p) rest
+entries_row : (p : Pairs) (first : Bool) (rest : List ℕ) → shown_entries p first rest ≡ row shown_entry first (entries_of p) rest
 entries_row empty first rest = refl
 entries_row (pair k a p) first rest = ap (λ X. parted first 59 (shown_entry (entry k a) X)) (entries_row p false rest)
 
@@ -201,8 +197,6 @@ mutual
       let j = m.0 in
       (cc, m.1)
 
-pub values : (t : Ty) → Elements (Typed t) shown (After t)
-values t = value_elements t (same t)
-
-pub entries : (t u : Ty) → Elements (TypedEntry t u) shown_entry (After u)
-entries t u = entry_elements t u (same t) (same u)
+pub elements : (k : Kind) (t : Types k) → Elements (TypedElement k t) (shown_element k) (AfterElement k t)
+elements values t = value_elements t (same t)
+elements entries t = entry_elements t.0 t.1 (same t.0) (same t.1)

@@ -6,7 +6,7 @@ ghost use Rattle.value_model.specs.Model.{Val};
 ghost use Rattle.writing.specs.Displays.{written};
 
 use crate::fault::DisplayFault;
-use crate::read::value_at;
+use crate::read::Reader;
 use std::alloc::Global;
 use types::ValueType;
 use values::Value;
@@ -18,7 +18,7 @@ pub fn read_display(heap: Global, expected: &ValueType, s: &[u8]) -> Result<Valu
     ensures typed { Admitted (ty_of expected.now) result }
     ensures inverse { (v : Val) → Of (ty_of expected.now) v → written v ≡ s.now → ReadAs v result }
 {
-    let value = value_at(heap, expected, s, 0)?.whole(s)?;
+    let value = expected.read_at(heap, s, 0)?.whole(s)?;
     // within the limits, only a key with two associates keeps a value from being of its type
     if !expected.admits(&value) {
         return Err(DisplayFault::Conflict);
