@@ -65,8 +65,11 @@ pub fn add(
 {
     let mut row = Vec::from_clones(heap, entries)?;
     let entry = Entry { key, associate };
-    if let Err(place) = find(entries, &ByEntry { entry: &entry }) {
-        row.insert(place, entry)?;
+    match find(entries, &ByEntry { entry: &entry }) {
+        Ok(_) => Ok(row),
+        Err(place) => {
+            row.insert(place, entry)?;
+            Ok(row)
+        }
     }
-    Ok(row)
 }
