@@ -1,7 +1,7 @@
 ghost use Rattle.std.specs.Prelude.{◌≡◌};
 ghost use Rattle.values.specs.Means.{val};
 
-use crate::value::{Entry, Value};
+use crate::value::Value;
 use std::alloc::AllocError;
 
 // The same value, sharing what is inside.
@@ -16,16 +16,5 @@ impl Clone for Value {
             Value::List(row) => Ok(Value::List(row.clone()?)),
             Value::Table(entries) => Ok(Value::Table(entries.clone()?)),
         }
-    }
-}
-
-impl Clone for Entry {
-    ghost is_clone = { λ d e. (val e.key ≡ val d.key) × (val e.associate ≡ val d.associate) };
-
-    fn clone(&self) -> Result<Entry, AllocError> {
-        Ok(Entry {
-            key: self.key.clone()?,
-            associate: self.associate.clone()?,
-        })
     }
 }

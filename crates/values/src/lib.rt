@@ -5,6 +5,7 @@
 #![tactic(auto)]
 
 mod copies;
+mod entry;
 mod order;
 mod sizes;
 mod value;

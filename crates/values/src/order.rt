@@ -3,10 +3,9 @@ ghost use Rattle.std.specs.Cmp.{eq_by_cmp_equiv, on_total, partial_equiv_from_eq
 ghost use Rattle.std.specs.Ordering.{as_partial_cmp, eq_by_cmp, on};
 ghost use Rattle.value_model.proofs.Ordered.{cmp_total};
 ghost use Rattle.values.specs.Means.{val};
-ghost use Rattle.values.specs.Entries.{entry_cmp, entry_total};
 ghost use Rattle.value_model.specs.Order.{cmp, Lawful};
 
-use crate::value::{Entry, Value};
+use crate::value::Value;
 use std::cmp::Ordering;
 
 impl Value {
@@ -90,51 +89,6 @@ impl Ord for Value {
                     Ordering::Greater,
                 Value::Table(q) => p.cmp(q),
             },
-        }
-    }
-}
-
-impl PartialEq for Entry {
-    ghost eq = { eq_by_cmp entry_cmp };
-
-    ghost laws = { partial_equiv_from_equiv (eq_by_cmp_equiv entry_total) };
-
-    #[cycle(order)]
-    fn eq(&self, other: &Entry) -> bool {
-        self.cmp(other).is_eq()
-    }
-}
-
-impl Eq for Entry {
-    ghost laws = { eq_by_cmp_equiv entry_total };
-}
-
-impl PartialOrd for Entry {
-    ghost partial_cmp = { as_partial_cmp entry_cmp };
-
-    ghost laws = { partial_order_from_total entry_total };
-
-    #[cycle(order)]
-    fn partial_cmp(&self, other: &Entry) -> Option<Ordering> {
-        Some(self.cmp(other))
-    }
-}
-
-// Entries go by key, and then by associate.
-impl Ord for Entry {
-    ghost cmp = { entry_cmp };
-
-    ghost total = { entry_total };
-
-    ghost matches_partial_cmp = { λ d e. λ i. as_partial_cmp entry_cmp d e };
-
-    ghost matches_eq = { λ d e. λ i. eq_by_cmp entry_cmp d e };
-
-    #[cycle(order)]
-    fn cmp(&self, other: &Entry) -> Ordering {
-        match self.key.cmp(&other.key) {
-            Ordering::Equal => self.associate.cmp(&other.associate),
-            unequal => unequal,
         }
     }
 }

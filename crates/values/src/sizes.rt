@@ -3,7 +3,7 @@ ghost use Rattle.std.specs.List.{sum_by};
 ghost use Rattle.value_model.specs.Sizes.{size};
 ghost use Rattle.values.specs.Means.{val};
 
-use crate::value::{Entry, Value};
+use crate::value::Value;
 
 // The most that the size of a value may be.
 pub const SIZE_LIMIT: usize = 256;
@@ -26,15 +26,6 @@ impl<T: HasSize> HasSize for Vec<T> {
             total = total.saturating_add(item.size());
         }
         total
-    }
-}
-
-impl HasSize for Entry {
-    ghost size_of = { λ e. size (val e.key) + size (val e.associate) };
-
-    #[cycle(sizes)]
-    fn size(&self) -> usize {
-        self.key.size().saturating_add(self.associate.size())
     }
 }
 
