@@ -1,6 +1,6 @@
 // Lists, and the rows of compounds: insertion, removal, membership, and rows made of values or of a range of numbers.
 // Promise: each operation is equal to its definition, and keeps "is a value of this type" whenever the size allows.
-// The hard idea: the one search gives the place for all of them; a row is cloned whole, and its clones share what is inside.
+// The hard idea: the one search gives the place for insertion, removal and membership; a row is cloned whole, and its clones share what is inside.
 #![tactic(auto)]
 
 mod edits;

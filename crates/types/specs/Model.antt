@@ -22,6 +22,7 @@ abbrev mutual
   ty_of (List' c t) = lists (ty_of t)
   ty_of (Table' c k a) = tables (ty_of k) (ty_of a)
 
+  -- the row inside a type: it means what `tys_of` says of its items, by `ty_compound` of proofs/Shared
   pub row_tys : {n : _} → Row_of-ValueType n → Tys
   row_tys end_of-ValueType = end
   row_tys (more_of-ValueType t r) = also (ty_of t) (row_tys r)

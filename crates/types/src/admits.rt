@@ -4,7 +4,7 @@ ghost use Rattle.types.specs.Types.{of, formed, each_formed, all_formed, pairs_f
 ghost use Rattle.values.specs.Means.{val, vals, pairs};
 
 use crate::value_type::{Sides, ValueType};
-use values::{Entry, HasSize, Value};
+use values::{Entry, Value};
 
 // The highest number; the lowest is its opposite.
 pub const BOUND: i32 = 999_999_999;

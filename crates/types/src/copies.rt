@@ -4,7 +4,7 @@ ghost use Rattle.types.specs.Model.{ty_of};
 use crate::value_type::ValueType;
 use std::alloc::AllocError;
 
-// The same type, sharing what is inside.
+// The same type, sharing what is inside. By hand, since of a type that contains itself a derive says nothing.
 impl Clone for ValueType {
     ghost is_clone = { λ t u. ty_of u ≡ ty_of t };
 

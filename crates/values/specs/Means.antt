@@ -14,6 +14,8 @@ abbrev mutual
   val (List' c s r) = list (row_vals r)
   val (Table' c s p) = table (row_pairs p)
 
+  -- the rows inside a value: they mean what `vals` and `pairs` say of their items, by `val_compound`, `val_list` and `val_table` of
+  -- proofs/Shared
   pub row_vals : {n : _} → Row_of-Value n → Vals
   row_vals end_of-Value = none
   row_vals (more_of-Value v r) = more (val v) (row_vals r)

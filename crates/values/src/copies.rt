@@ -4,7 +4,7 @@ ghost use Rattle.values.specs.Means.{val};
 use crate::value::Value;
 use std::alloc::AllocError;
 
-// The same value, sharing what is inside.
+// The same value, sharing what is inside. By hand, since of a type that contains itself a derive says nothing.
 impl Clone for Value {
     ghost is_clone = { λ v w. val w ≡ val v };
 

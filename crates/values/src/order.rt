@@ -51,7 +51,8 @@ impl PartialOrd for Value {
     }
 }
 
-// The order of values: numbers from the lowest up, others by their first part that differs; of different kinds, by kind.
+// The order of values: numbers from the lowest up, others by their first part that differs; of different kinds, by kind. By hand, since a
+// derive says of a type that contains itself nothing that a proof could cite.
 impl Ord for Value {
     ghost cmp = { on val cmp };
 

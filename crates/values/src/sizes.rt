@@ -16,7 +16,8 @@ pub trait HasSize {
         ensures { result ≡ min (size_of self.now) (2 ^ 64 - 1) };
 }
 
-// The sizes of the items together.
+// The sizes of the items together: `sizes` of a row of values and `pair_sizes` of one of entries, by `sizes_of` and `pair_sizes_of` of
+// proofs/Shared.
 impl<T: HasSize> HasSize for Vec<T> {
     ghost size_of = { λ v. sum_by T.size_of v.items };
 

@@ -1,6 +1,6 @@
 ghost use Rattle.std.specs.Prelude.{true, ◌∷◌, ◌++◌};
 ghost use Rattle.notation.specs.Numbers.{nat, int};
-ghost use Rattle.notation.specs.Texts.{step, inner};
+ghost use Rattle.notation.specs.Texts.{inner};
 ghost use Rattle.values.specs.Means.{val, vals, pairs};
 ghost use Rattle.writing.specs.Displays.{parted, shown, shown_items, shown_entries};
 ghost use Rattle.writing.specs.Sinks.{Takes};
