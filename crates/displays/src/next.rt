@@ -2,7 +2,8 @@ ghost use Rattle.displays.specs.Nexts.{Opens, Goes, Parts};
 
 use reading::{begins, expect};
 
-// What stands next in a list or table: one more entry, or its end. Each with the place where it begins or where the row ended.
+// What stands next in a list or table: one more entry, or its end. Each with the place where it begins or where the row ended. Neither
+// is a refusal or an absence, and `ControlFlow` would call them Continue and Break.
 #[derive(Clone, Copy)]
 pub enum Next {
     Entry(usize),

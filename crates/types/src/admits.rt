@@ -78,6 +78,7 @@ fn are_all_formed(row: &[Value], item: &ValueType) -> bool
     true
 }
 
+// Beside `are_all_formed`: what an item has to be is one type there and two here, and a trait for both would be longer than the loops.
 #[cycle(formed)]
 fn are_pairs_formed(entries: &[Entry], sides: &Sides) -> bool
     ensures { result ≡ pairs_formed (pairs entries.now) (ty_of sides.now.key) (ty_of sides.now.associate) }
