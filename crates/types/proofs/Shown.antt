@@ -8,7 +8,7 @@ use Rattle.std.specs.Prelude.{nat_le}
 use Rattle.std.specs.declared.fmt.Formatter.{Formatter}
 use Rattle.std.specs.Fmt.{DisplaysOnOk, HasWritten, IsPlainFormatter, decimal}
 use Rattle.types.specs.declared.value_type.ValueType.{ValueType}
-use Rattle.types.specs.Model.{Ty, Tys, ty_of, tys_of, comps}
+use Rattle.types.specs.Model.{Ty, Tys, tys_of, comps}
 use Rattle.types.specs.Texts.{count, type_text, type_texts, sound, sounds}
 
 counted : (all : List ValueType) → count (tys_of all) ≡ length all
@@ -29,16 +29,6 @@ module _ {W : Type 0} (took : W → List ℕ → W → Type 0) where
     pub right : sounds (tys_of left) ≡ true
     pub plain : IsPlainFormatter g
     pub leads : (h : Formatter W) → HasWritten took g (type_texts (tys_of left)) h → HasWritten took f (type_texts (tys_of all)) h
-
-  pub underway_first : (all : List ValueType) (f : Formatter W) → sounds (tys_of all) ≡ true → IsPlainFormatter f → Underway all f f all
-  underway_first all f s p = record { right = s; plain = p; leads = λ h w. w }
-
-  pub underway_more : (all : List ValueType) (f g h : Formatter W) (t : ValueType) (left : List ValueType) → Underway all f g (t ∷ left) → HasWritten took g (type_text (ty_of t)) h → Underway all f h left
-  underway_more all f g h t left u w = record {
-    right = (and_parts (sound (ty_of t)) (sounds (tys_of left)) u.right).1;
-    plain = w.plain;
-    leads = λ i v. u.leads i (has_written_append took g (type_text (ty_of t)) h (type_texts (tys_of left)) i w v);
-  }
 
   pub underway_last : (all : List ValueType) (f g : Formatter W) → Underway all f g [] → HasWritten took f (type_texts (tys_of all)) g
   underway_last all f g u = u.leads g (record { wrote = record { parts = []; calls = refl; whole = refl }; plain = u.plain })

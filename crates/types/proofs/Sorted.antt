@@ -1,13 +1,12 @@
--- What `is_sorted` and `is_sorted_by` answer, by recursion along the row.
+-- What `is_sorted` answers, by recursion along the row.
 use Rattle.std.proofs.Common.{◌≡◌, ℕ, zero, suc, ◌+◌, ◌<◌, Bool, true, false, not, ◌&&◌, List, [], ◌∷◌, length, slice_index_or, Ordering, Less, Equal, Greater, sym, refl, ap, ◌∙◌, arith}
 use native.Mathlib.Numerals.{unary_clauses}
 use Rattle.std.proofs.Math.Bool.{and-false}
-use Rattle.std.specs.Ordering.{is_le, is_lt, is_gt, partial_le, as_partial_cmp, on}
-use Rattle.types.specs.Types.{ascending, ascending_keys}
+use Rattle.std.specs.Ordering.{is_le, is_gt, partial_le, as_partial_cmp, on}
+use Rattle.types.specs.Types.{ascending}
 use Rattle.value_model.specs.Order.{cmp}
-use Rattle.values.specs.declared.value.Entry.{Entry}
 use Rattle.values.specs.declared.value.Value.{Value}
-use Rattle.values.specs.Means.{val, vals, pairs}
+use Rattle.values.specs.Means.{val, vals}
 use Rattle.std.specs.List.{IsAllAdjacentAnswer}
 
 module _ {X : Type 0} (e : X → X → Bool) where
@@ -34,10 +33,6 @@ module _ {X : Type 0} (e : X → X → Bool) where
       let i = one_fails (y ∷ ys) k (omega arith) (λ d. let i = simp unary_clauses at (h d) in simp unary_clauses i) in
       sym (and-false (e x y)) ∙ ap (◌&&◌ (e x y)) i
 
-  pub sorted_answer : (xs : List X) (r : Bool) → IsAllAdjacentAnswer (λ x y b. b ≡ e x y) xs r → r ≡ sorted_by xs
-  sorted_answer xs true h = all_hold xs h
-  sorted_answer xs false h = one_fails xs h.0 h.1 h.2
-
   pub is_sorted_answer : (xs : List X) (r : Bool) → IsAllAdjacentAnswer (λ x y b. e x y ≡ b) xs r → r ≡ sorted_by xs
   is_sorted_answer xs true h = all_hold xs (λ k d lt. sym (h k d lt))
   is_sorted_answer xs false h = one_fails xs h.0 h.1 (λ d. sym (h.2 d))
@@ -51,8 +46,3 @@ pub sorted_row : (vs : List Value) → sorted_by (partial_le (as_partial_cmp (on
 sorted_row [] = refl
 sorted_row (v ∷ []) = refl
 sorted_row (v ∷ (w ∷ ws)) = λ i. at_most (cmp (val v) (val w)) i && sorted_row (w ∷ ws) i
-
-pub sorted_keys : (es : List Entry) → sorted_by (λ d e. is_lt (cmp (val d.key) (val e.key))) es ≡ ascending_keys (pairs es)
-sorted_keys [] = refl
-sorted_keys (d ∷ []) = refl
-sorted_keys (d ∷ (e ∷ es)) = ap (◌&&◌ (is_lt (cmp (val d.key) (val e.key)))) (sorted_keys (e ∷ es))
