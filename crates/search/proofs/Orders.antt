@@ -1,5 +1,5 @@
 -- What follows from a total order.
-use Rattle.std.proofs.Common.{◌≡◌, true, not, Ordering, Less, Equal, Greater, refl, ap, ◌∙◌, arith}
+use Rattle.std.proofs.Common.{◌≡◌, true, false, not, Ordering, Less, Equal, Greater, refl, ap, ◌∙◌, arith}
 use Rattle.search.specs.Search.{TotalOrder}
 use Rattle.std.specs.Ordering.{is_lt, is_eq, is_gt, ordering_reverse}
 
@@ -33,3 +33,7 @@ module _ {K : Type 0} (cmp : K → K → Ordering) (o : TotalOrder cmp) where
 
   pub at_most_trans : (x y z : K) → not (is_gt (cmp x y)) ≡ true → not (is_gt (cmp y z)) ≡ true → not (is_gt (cmp x z)) ≡ true
   at_most_trans x y z h k = let t = less_at_most_less x y z in let a = o.alike x y z in grind arith
+
+  -- what is not below is at least
+  pub at_least : (x y : K) → is_lt (cmp x y) ≡ false → not (is_gt (cmp y x)) ≡ true
+  at_least x y h = let f = o.flip y x in grind arith
