@@ -10,5 +10,5 @@ mod order;
 mod sizes;
 mod value;
 
-pub use sizes::{HasSize, SIZE_LIMIT};
+pub use sizes::{HasSize, SIZE_LIMIT, size_of_row};
 pub use value::{Entry, Value};

@@ -17,25 +17,41 @@ pub trait HasSize {
 }
 
 // The sizes of the items together: `sizes` of a row of values and `pair_sizes` of one of entries, by `sizes_of` and `pair_sizes_of` of
-// proofs/Shared.
+// proofs/Shared. Not inlined, so that a number pays for no loop.
+#[inline(never)]
+pub fn size_of_row<T: HasSize>(row: &[T]) -> usize
+    ensures { result ≡ min (sum_by T.size_of row.now) (2 ^ 64 - 1) }
+{
+    let mut total: usize = 0;
+    for item in row {
+        total = total.saturating_add(item.size());
+    }
+    total
+}
+
 impl<T: HasSize> HasSize for Vec<T> {
     ghost size_of = { λ v. sum_by T.size_of v.items };
 
     fn size(&self) -> usize {
-        let mut total: usize = 0;
-        for item in self {
-            total = total.saturating_add(item.size());
-        }
-        total
+        size_of_row(self)
     }
 }
 
-// 1 for a number, 1 and its characters for a text, 1 and the sizes of its parts for any other value.
 impl HasSize for Value {
     ghost size_of = { λ v. size (val v) };
 
     #[cycle(sizes)]
     fn size(&self) -> usize {
+        Value::size(self)
+    }
+}
+
+impl Value {
+    // 1 for a number, 1 and its characters for a text, 1 and the sizes of its parts for any other value, as far as a word counts.
+    #[cycle(sizes)]
+    pub fn size(&self) -> usize
+        ensures { result ≡ min (size (val self.now)) (2 ^ 64 - 1) }
+    {
         match self {
             Value::Number(_) => 1,
             Value::Text(codes) => codes.len().saturating_add(1),
@@ -44,9 +60,7 @@ impl HasSize for Value {
             Value::Table(entries) => entries.size().saturating_add(1),
         }
     }
-}
 
-impl Value {
     // Whether the size is within the limit.
     pub fn fits(&self) -> bool
         ensures { result ≡ nat_le (size (val self.now)) 256 }
