@@ -1,5 +1,6 @@
 pub mod Places
 pub mod Kept
 pub mod Gathered
+pub mod Collected
 pub mod Selected
 pub mod Numbers

@@ -71,7 +71,7 @@ entered_heads x [] = refl
 entered_heads x (t ∷ ts) =
     elim (is_eq (by_entry (entry_of t) (entry_of x))) as (λ s. cond s (pairs (t ∷ ts)) (pairs (x ∷ t ∷ ts)) ≡ pairs (cond s (t ∷ ts) (x ∷ t ∷ ts))) [ true ↦ refl | false ↦ refl ]
 
--- ---- the operations on a clone ts of es, by what is found in es
+-- ---- the operations on a row ts that means what es means, by what is found in es
 
 -- what stands from the place of k on, with a as its associate
 abbrev pub replaced : Val → Val → Pairs → Pairs

@@ -1,4 +1,4 @@
-ghost use Rattle.std.specs.Prelude.{◌≡◌, IfOk, MatchOption};
+ghost use Rattle.std.specs.Prelude.{◌≡◌, IfOk, OnOk, OnErr, MatchOption};
 ghost use Rattle.std.specs.Option.{option_map};
 ghost use Rattle.tables.specs.Laws.{Association, Deletion, NoKey, Addition};
 ghost use Rattle.tables.specs.Tables.{associated, deleted, added};
@@ -52,8 +52,7 @@ pub fn delete(
     }
 }
 
-// The entries with that of the key and associate among them, once, in order of key and then of associate. It serves to read
-// a table whose entries come in any order and perhaps more than once: there one key may have several associates.
+// The entries with that of the key and associate among them, once, in order of key and then of associate.
 pub fn add(
     heap: Global,
     entries: &[Entry],
@@ -63,13 +62,24 @@ pub fn add(
     ensures value { IfOk result (λ q. pairs q.items ≡ added (val key) (val associate) (pairs entries.now)) }
     ensures law { IfOk result (λ q. Addition (val key) (val associate) (pairs entries.now) (pairs q.items)) }
 {
-    let mut row = Vec::from_clones(heap, entries)?;
+    let mut table = Vec::from_clones(heap, entries)?;
+    add_to(&mut table, key, associate)?;
+    Ok(table)
+}
+
+// Puts the entry of the key and associate among the entries, in order of key and then of associate; where it stands nothing is done. It
+// serves to read a table whose entries come in any order and perhaps more than once: there one key may have several associates.
+pub fn add_to(entries: &mut Vec<Entry>, key: Value, associate: Value) -> Result<(), AllocError>
+    ensures value { OnOk result (pairs entries.new.items ≡ added (val key) (val associate) (pairs entries.old.items)) }
+    ensures law { OnOk result (Addition (val key) (val associate) (pairs entries.old.items) (pairs entries.new.items)) }
+    ensures err { OnErr result (entries.new.items ≡ entries.old.items) }
+{
     let entry = Entry { key, associate };
     match find(entries, &ByEntry { entry: &entry }) {
-        Ok(_) => Ok(row),
+        Ok(_) => Ok(()),
         Err(place) => {
-            row.insert(place, entry)?;
-            Ok(row)
+            entries.insert(place, entry)?;
+            Ok(())
         }
     }
 }

@@ -8,5 +8,5 @@ mod edits;
 mod reads;
 mod sought;
 
-pub use edits::{add, delete, put};
+pub use edits::{add, add_to, delete, put};
 pub use reads::{keys, select};
