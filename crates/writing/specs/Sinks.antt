@@ -15,3 +15,7 @@ counted count byte = record { bytes = min (count.bytes + 1) (2 ^ 64 - 1) }
 -- an area after one byte more
 abbrev pub filled : Area → ℕ → Area
 filled area byte = cond (nat_lt area.at (length area.bytes.now)) (record { bytes = record area.bytes { now = slice_set area.bytes.now area.at byte }; at = area.at + 1 }) area
+
+-- an area that holds these bytes, with the place of the next
+abbrev pub holding : Area → List ℕ → ℕ → Area
+holding area bytes at = record { bytes = record area.bytes { now = bytes }; at = at }
