@@ -1,10 +1,11 @@
 -- The steps of the readers of numbers.
-use Rattle.std.proofs.Common.{◌≡◌, ℕ, zero, suc, ◌+◌, ◌-◌, ◌*◌, ◌/◌, ◌%◌, ◌<◌, ◌≤◌, Bool, true, false, leb, ◌⊎◌, List, [], ◌∷◌, ◌++◌, length, get_or, take, drop, ℤ, pos, negsuc, neg_ℤ, ◌+ℤ◌, ◌*ℤ◌, ◌≤ℤ◌, ◌<ℤ◌, sym, refl, ap, ◌∙◌, subst, inl, inr, Some, None, Option, is_some, Ok, Err, Result, append_assoc, append-nil, take_all, slice_index, arith, length-drop}
+use Rattle.std.proofs.Common.{◌≡◌, ℕ, zero, suc, ◌+◌, ◌-◌, ◌*◌, ◌/◌, ◌%◌, ◌<◌, ◌≤◌, Bool, true, false, leb, ◌⊎◌, List, [], ◌∷◌, ◌++◌, length, get_or, take, drop, ℤ, pos, negsuc, neg_ℤ, ◌+ℤ◌, ◌*ℤ◌, ◌≤ℤ◌, ◌<ℤ◌, sym, refl, ap, ◌∙◌, subst, inl, inr, Some, None, Option, is_some, Ok, Err, Result, append_assoc, append-nil, take_all, arith, length-drop}
+use Rattle.std.specs.Char.{is_ascii_digit}
 use Rattle.std.specs.Int.Digits.{digits_of}
 use Rattle.std.proofs.lemmas.Int.Digits.{digits_of_step}
 use Rattle.std.proofs.lemmas.Bool.Decides.{nat_tests, leb_tells}
 use Rattle.std.proofs.lemmas.Int.{ints}
-use Rattle.std.proofs.lemmas.List.{drop_more, get_or-take, get_or-drop}
+use Rattle.std.proofs.lemmas.List.{drop_more, get_or-drop}
 use Rattle.notation.specs.Digits.{Digit, NoDigit, DigitAt, Capped, GotNat, GotNumber, NoNat, NoNumber, ReadNat, ReadNumber}
 use Rattle.reading.specs.Bytes.{NotHere}
 use Rattle.reading.specs.declared.word.Word.{Word}
@@ -65,19 +66,16 @@ module _ (s : List ℕ) (at first i j x : ℕ) (v : ℤ) (fits : Bool) (h : Goin
   pub going_loses : (fits ≡ false) ⊎ (pos 99999999 <ℤ v) → Going s at first v false j
   going_loses o = record { m = h.m * 10 + (x - 48); some = omega (arith, h.some); shows = onward; so = loses h.m (x - 48) v fits h.so o }
 
-pub slice_from : (s : List ℕ) (at : ℕ) → take (length s - at) (drop at s) ≡ drop at s
+slice_from : (s : List ℕ) (at : ℕ) → take (length s - at) (drop at s) ≡ drop at s
 slice_from s at = take_all (length s - at) (drop at s) (omega (arith, length-drop at s))
 
--- a byte of the digits that stand from a place on
-pub digit_next : (s : List ℕ) (at len k : ℕ) → at + len ≤ length s → ((j : ℕ) → j < len → Digit (slice_index (take (length s - at) (drop at s)) j)) → k < len → (x : ℕ) → x ≡ get_or (take (at + len - at) (drop at s)) k 0
-    → (drop (at + k) s ≡ x ∷ drop (at + (k + 1)) s) × Digit x
-digit_next s at len k w d l x e =
-    let a : x ≡ get_or (drop at s) k 0 = e ∙ get_or-take (at + len - at) (drop at s) k 0 (omega arith) in
+-- a digit of what stands from a place on
+pub digit_next : (s : List ℕ) (at k x : ℕ) → at + k < length s → x ≡ get_or (take (length s - at) (drop at s)) k 0 → is_ascii_digit x ≡ true → (drop (at + k) s ≡ x ∷ drop (at + k + 1) s) × Digit x
+digit_next s at k x l e d =
+    let a = ap (λ y. get_or y k 0) (slice_from s at) in
     let b = get_or-drop at s k 0 in
-    let f = drop_more s (at + k) 0 (omega arith) in
-    let n : at + (k + 1) ≡ at + k + 1 = omega arith in
-    let g : Digit (slice_index (drop at s) k) = rw (slice_from s at) at (d k l) in
-    (rw n (cc), rw a g)
+    let f = drop_more s (at + k) 0 l in
+    (cc, grind (arith, nat_tests))
 
 pub going_starts : (s : List ℕ) (at first : ℕ) → 0 < first → first < 10 → Going s at first (pos first) true at
 going_starts s at first k l =

@@ -1,6 +1,6 @@
-ghost use Rattle.std.specs.Prelude.{◌≡◌, ℕ, ◌+◌, ◌<◌, ◌≤◌, ◌∷◌, length, drop, slice_index};
+ghost use Rattle.std.specs.Prelude.{◌≡◌, ◌+◌, ◌<◌, ◌≤◌, ◌∷◌, length, drop};
 ghost use Rattle.reading.specs.Bytes.{Here};
-ghost use Rattle.notation.specs.Digits.{Digit, NoDigit, DigitAt, GotNat, ReadNat, ReadNumber};
+ghost use Rattle.notation.specs.Digits.{DigitAt, GotNat, ReadNat, ReadNumber};
 ghost use Rattle.notation.specs.Numbers.{NumberForm};
 ghost use Rattle.reading.specs.Reading.{Answer};
 ghost use Rattle.types.specs.Types.{bounded};
@@ -69,26 +69,21 @@ fn digits_from(s: &[u8], at: usize, first: u8) -> Word<i32>
     ensures high { result.end ≤ length s.now }
     ensures got { GotNat ((48 + first) ∷ drop at s.now) result.value result.fits (drop result.end s.now) }
 {
-    let end = at + digits_len(&s[at..]);
     let mut value = i32::from(first);
     let mut fits = true;
-    for code in &s[at..end] {
+    let mut end = at;
+    for code in &s[at..] {
+        if !code.is_ascii_digit() {
+            break;
+        }
         if fits && value <= BOUND / 10 {
             value = value * 10 + i32::from(code - b'0');
         } else {
             fits = false;
         }
+        end += 1;
     }
     Word { value, fits, end }
-}
-
-// How many digits stand at the front.
-fn digits_len(s: &[u8]) -> usize
-    ensures within { result ≤ length s.now }
-    ensures digits { (k : ℕ) → k < result → Digit (slice_index s.now k) }
-    ensures after { NoDigit (drop result s.now) }
-{
-    s.iter().take_while(|code| code.is_ascii_digit()).count()
 }
 
 fn digit_at(s: &[u8], at: usize) -> Option<u8>

@@ -12,12 +12,15 @@ use values::Value;
 // The items of a value that are left, to be taken in turn: all but the first `taken`.
 #[derive(Drop)]
 pub struct Items {
-    value: Value,
-    taken: usize,
+    // The value whose items they are, held by sharing.
+    pub value: Value,
+    // How many items at the front were taken.
+    pub taken: usize,
 }
 
 impl Items {
     // The items of the value; nothing for a number or a compound.
+    #[tactic(auto, using(crate::proofs::Typed::typed))]
     pub fn of(value: &Value) -> Result<Option<Items>, AllocError>
         ensures value { IfOk result (λ o. option_map left o ≡ items_of (val value.now)) }
         ensures law { IfOk result (λ o. ItemsTyped (val value.now) (option_map left o)) }
