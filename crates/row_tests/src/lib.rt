@@ -4,12 +4,17 @@
 
 #[cfg(test)]
 mod tests {
-    use lists::{RangeFault, collect, contains, field, in_order, insert, range, remove};
+    use lists::{
+        RangeFault, collect, contains, field, in_order, insert, insert_into, range, remove,
+    };
+    use search::{Walk, walks};
     use sequences::{Items, count};
     use std::alloc::{AllocError, Global};
+    use std::cmp::Ordering;
+    use std::collections::LinkedList;
     use std::rc::Rc;
     use std::test::Fail;
-    use tables::{add, delete, keys, put, select};
+    use tables::{add, add_to, delete, keys, put, select};
     use types::{Sides, ValueType};
     use values::{Entry, Value};
 
@@ -69,8 +74,11 @@ mod tests {
             (&[2, 4], 2, &[2, 2, 4], "a value that stands already"),
         ];
         for (row, number, expected, shows) in cases {
-            let list = insert(heap, &numbers(heap, row)?, Value::Number(number))?;
+            let mut row = numbers(heap, row)?;
+            let list = insert(heap, &row, Value::Number(number))?;
             assert!(rt; list == numbers(heap, expected)?, "{}", shows);
+            insert_into(&mut row, Value::Number(number))?;
+            assert!(rt; row == list, "{}, in place", shows);
         }
         Ok(())
     }
@@ -165,7 +173,8 @@ mod tests {
     #[test]
     fn puts_and_adds(rt: HostRuntime) -> Result<(), Fail> {
         let heap = rt.alloc();
-        let table = entries(heap, &[(1, 10), (3, 30)])?;
+        let stands: &[(i32, i32)] = &[(1, 10), (3, 30)];
+        let table = entries(heap, stands)?;
         let cases: [((i32, i32), &[(i32, i32)], &[(i32, i32)], &str); 3] = [
             (
                 (2, 0),
@@ -191,6 +200,9 @@ mod tests {
             assert!(rt; changed == entries(heap, with_put)?, "{}", shows);
             let grown = add(heap, &table, Value::Number(k), Value::Number(a))?;
             assert!(rt; grown == entries(heap, with_added)?, "{}", shows);
+            let mut row = entries(heap, stands)?;
+            add_to(&mut row, Value::Number(k), Value::Number(a))?;
+            assert!(rt; row == grown, "{}, in place", shows);
         }
         Ok(())
     }
@@ -254,6 +266,59 @@ mod tests {
             assert!(rt; has_items(heap, &value, expected)?, "{}", shows);
         }
         Ok(())
+    }
+
+    #[test]
+    fn walks_linked_rows(rt: HostRuntime) -> Result<(), Fail> {
+        let heap = rt.alloc();
+        for (number, index, found, shows) in [
+            (1, 0, false, "before the first key"),
+            (2, 0, true, "the first key"),
+            (4, 1, true, "a key in the middle, which stands"),
+            (5, 2, false, "a key in the middle, which does not"),
+            (7, 3, false, "past the end"),
+        ] {
+            let mut row = LinkedList::new(heap);
+            for key in [2, 4, 6] {
+                row.push_back(key)?;
+            }
+            let mut walk = NumberWalk {
+                row,
+                sought: number,
+            };
+            let place = walks::find(&mut walk);
+            assert_eq!(rt; (place.index, place.found), (index, found), "{}", shows);
+            assert_eq!(rt; walk.row.len(), 3 - index, "{}", shows);
+        }
+        Ok(())
+    }
+
+    // A walk along a linked row of numbers, towards the place of one.
+    #[derive(Drop)]
+    struct NumberWalk {
+        row: LinkedList<u32>,
+        sought: u32,
+    }
+
+    impl Walk for NumberWalk {
+        ghost use Rattle.std.specs.Prelude.{ℕ};
+        ghost use Rattle.std.specs.Ordering.{nat_cmp};
+
+        ghost Key = { ℕ };
+
+        ghost compares = { nat_cmp };
+
+        ghost sought = { λ w. w.sought };
+
+        ghost ahead = { λ w. w.row };
+
+        fn next(&self) -> Option<Ordering> {
+            self.row.front().map(|key| key.cmp(&self.sought))
+        }
+
+        fn pass(&mut self) {
+            self.row.pop_front();
+        }
     }
 
     // Whether the items of the value are those, and no more.
