@@ -60,7 +60,8 @@ fn natural_at(s: &[u8], at: usize) -> Result<Word<i32>, usize>
     }
 }
 
-// The number whose first digit, not 0, stands before `at`. Past the bound the digits are only passed.
+// The number whose first digit, not 0, stands before `at`. Past the bound the digits are only passed. One loop, which counts where they end: a count
+// by the library's methods would go over them twice.
 fn digits_from(s: &[u8], at: usize, first: u8) -> Word<i32>
     requires within { at ≤ length s.now }
     requires leading { 0 < first }

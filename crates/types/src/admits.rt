@@ -51,7 +51,9 @@ fn is_formed(value: &Value, expected: &ValueType) -> bool
     }
 }
 
+// This loop and those below are not inlined, so that a number pays for none.
 #[cycle(formed)]
+#[inline(never)]
 fn is_each_formed(row: &[Value], fields: &[ValueType]) -> bool
     ensures { result ≡ each_formed (vals row.now) (tys_of fields.now) }
 {
@@ -67,6 +69,7 @@ fn is_each_formed(row: &[Value], fields: &[ValueType]) -> bool
 }
 
 #[cycle(formed)]
+#[inline(never)]
 fn are_all_formed(row: &[Value], item: &ValueType) -> bool
     ensures { result ≡ all_formed (vals row.now) (ty_of item.now) }
 {
@@ -80,6 +83,7 @@ fn are_all_formed(row: &[Value], item: &ValueType) -> bool
 
 // Beside `are_all_formed`: what an item has to be is one type there and two here, and a trait for both would be longer than the loops.
 #[cycle(formed)]
+#[inline(never)]
 fn are_pairs_formed(entries: &[Entry], sides: &Sides) -> bool
     ensures { result ≡ pairs_formed (pairs entries.now) (ty_of sides.now.key) (ty_of sides.now.associate) }
 {
