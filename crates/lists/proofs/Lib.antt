@@ -4,3 +4,4 @@ pub mod Gathered
 pub mod Collected
 pub mod Selected
 pub mod Numbers
+pub mod Joins

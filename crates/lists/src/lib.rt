@@ -11,4 +11,4 @@ mod sought;
 
 pub use edits::{contains, countable, insert, insert_into, remove};
 pub use ranges::{RangeFault, range};
-pub use rows::{collect, field, in_order};
+pub use rows::{collect, field, in_order, joined};

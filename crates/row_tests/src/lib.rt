@@ -5,7 +5,7 @@
 #[cfg(test)]
 mod tests {
     use lists::{
-        RangeFault, collect, contains, field, in_order, insert, insert_into, range, remove,
+        RangeFault, collect, contains, field, in_order, insert, insert_into, joined, range, remove,
     };
     use search::{Walk, walks};
     use sequences::{Items, count};
@@ -167,6 +167,18 @@ mod tests {
             let expected = expected.map(Value::Number);
             assert!(rt; field(&fields, index) == expected.as_ref(), "{}", shows);
         }
+        Ok(())
+    }
+
+    #[test]
+    fn joins(rt: HostRuntime) -> Result<(), Fail> {
+        let heap = rt.alloc();
+        let front = numbers(heap, &[1, 2])?;
+        let rest = numbers(heap, &[4])?;
+        let longer = joined(heap, &front, Some(Value::Number(3)), &rest)?;
+        assert!(rt; longer == numbers(heap, &[1, 2, 3, 4])?, "with an item");
+        let shorter = joined(heap, &front, None, &rest)?;
+        assert!(rt; shorter == numbers(heap, &[1, 2, 4])?, "without an item");
         Ok(())
     }
 

@@ -1,7 +1,10 @@
 -- The operations by the search: the place, and what is from there on.
 use Rattle.std.proofs.Common.{◌≡◌, ℕ, suc, ◌+◌, Bool, true, false, cond, List, [], ◌∷◌, ◌++◌, map, take, drop, Some, None, Ok, Err, Option, Result, Ordering, sym, refl, ap, ◌∙◌, subst, add-one, arith}
+use Rattle.lists.proofs.Joins.{joined_map}
+use Rattle.lists.specs.Joins.{Joined}
 use Rattle.search.specs.Search.{rank, stands, Found, Located}
 use Rattle.std.proofs.lemmas.List.{drop-drop}
+use Rattle.std.specs.List.{AllZip, cons_option}
 use Rattle.std.specs.Option.{option_and_then}
 use Rattle.std.specs.Result.{result_ok}
 use Rattle.std.specs.Ordering.{is_eq, is_lt}
@@ -10,6 +13,7 @@ use Rattle.tables.specs.Tables.{selected, changed, past, associated, deleted, en
 use Rattle.value_model.specs.Model.{Val, Pairs, empty, pair, more}
 use Rattle.value_model.specs.Order.{cmp}
 use Rattle.value_model.specs.Rows.{row_of, keys}
+use Rattle.values.proofs.Shared.{entry_clones}
 use Rattle.values.specs.declared.value.Entry as code
 use Rattle.values.specs.Means.{val, pairs}
 
@@ -108,6 +112,13 @@ module _ (es ts : List code.Entry) (same : pairs ts ≡ pairs es) (n : ℕ) (fou
 
   pub added_found : (x : code.Entry) → Found by_entry (entry_of x) (map entry_of es) n found (drop n (map entry_of es)) → pairs (take n ts ++ cond found (drop n ts) (x ∷ drop n ts)) ≡ added (val x.key) (val x.associate) (pairs es)
   added_found x f = changed_found f (entered (val x.key) (val x.associate)) (cond found (drop n ts) (x ∷ drop n ts)) (entered_heads x (drop n ts) ∙ ap (λ s. pairs (cond s (drop n ts) (x ∷ drop n ts))) (heads_found f))
+
+-- what a row edited at one place means
+same_entries : (ds es : List code.Entry) → AllZip (λ d e. (val e.key ≡ val d.key) × (val e.associate ≡ val d.associate)) ds es → map entry_of es ≡ map entry_of ds
+same_entries ds es h = entries_listed es ∙ ap entries_of (entry_clones ds es h) ∙ sym (entries_listed ds)
+
+pub joined_pairs : (xs zs ws : List code.Entry) (item : Option code.Entry) → Joined (λ d e. (val e.key ≡ val d.key) × (val e.associate ≡ val d.associate)) xs item zs ws → pairs ws ≡ pairs (xs ++ cons_option item zs)
+joined_pairs xs zs ws item j = entries_same _ _ (sym (entries_listed ws) ∙ joined_map entry_of _ same_entries xs zs ws item j ∙ entries_listed (xs ++ cons_option item zs))
 
 -- ---- the associate of k
 

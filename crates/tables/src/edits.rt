@@ -5,6 +5,7 @@ ghost use Rattle.tables.specs.Tables.{associated, deleted, added};
 ghost use Rattle.values.specs.Means.{val, pairs};
 
 use crate::sought::{ByEntry, ByKey};
+use lists::joined;
 use search::find;
 use std::alloc::{AllocError, Global};
 use values::{Entry, Value};
@@ -19,18 +20,13 @@ pub fn put(
     ensures value { IfOk result (λ q. pairs q.items ≡ associated (val key) (val associate) (pairs entries.now)) }
     ensures law { IfOk result (λ q. Association (val key) (val associate) (pairs entries.now) (pairs q.items)) }
 {
-    let mut table = Vec::from_clones(heap, entries)?;
     let entry = Entry { key, associate };
-    match find(entries, &ByKey { key: &entry.key }) {
-        Ok(place) => {
-            table[place] = entry;
-            Ok(table)
-        }
-        Err(place) => {
-            table.insert(place, entry)?;
-            Ok(table)
-        }
-    }
+    let (from, to) = match find(entries, &ByKey { key: &entry.key }) {
+        Ok(place) => (place, place + 1),
+        Err(place) => (place, place),
+    };
+    let table = joined(heap, &entries[..from], Some(entry), &entries[to..])?;
+    Ok(table)
 }
 
 // The table without the key's entry; nothing if the key does not stand.
@@ -44,8 +40,7 @@ pub fn delete(
 {
     match find(entries, &ByKey { key }) {
         Ok(place) => {
-            let mut table = Vec::from_clones(heap, entries)?;
-            table.remove(place);
+            let table = joined(heap, &entries[..place], None, &entries[place + 1..])?;
             Ok(Some(table))
         }
         Err(_) => Ok(None),
@@ -62,9 +57,17 @@ pub fn add(
     ensures value { IfOk result (λ q. pairs q.items ≡ added (val key) (val associate) (pairs entries.now)) }
     ensures law { IfOk result (λ q. Addition (val key) (val associate) (pairs entries.now) (pairs q.items)) }
 {
-    let mut table = Vec::from_clones(heap, entries)?;
-    add_to(&mut table, key, associate)?;
-    Ok(table)
+    let entry = Entry { key, associate };
+    match find(entries, &ByEntry { entry: &entry }) {
+        Ok(_) => {
+            let table = Vec::from_clones(heap, entries)?;
+            Ok(table)
+        }
+        Err(place) => {
+            let table = joined(heap, &entries[..place], Some(entry), &entries[place..])?;
+            Ok(table)
+        }
+    }
 }
 
 // Puts the entry of the key and associate among the entries, in order of key and then of associate; where it stands nothing is done. It

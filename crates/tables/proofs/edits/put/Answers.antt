@@ -1,23 +1,19 @@
-use Rattle.std.proofs.Common.{◌<◌, true, false, length, ap, ◌∙◌, arith, rules}
-use Rattle.std.proofs.lemmas.List.{set_split}
+use Rattle.std.proofs.Common.{◌≡◌, true, false, refl, add-one, rules}
+use Rattle.lists.proofs.Joins.{to_end}
 use Rattle.tables.proofs.Kept.{association}
-use Rattle.tables.proofs.Places.{put_found}
+use Rattle.tables.proofs.Places.{put_found, joined_pairs}
 use Rattle.tables.proofs.edits.put.Goals as goal
-use Rattle.values.proofs.Shared.{entry_clones}
+use Rattle.tables.proofs.edits.put.Goals.{in-Ok, in-Err}
+use Rattle.tables.specs.Tables.{associated}
 use Rattle.values.specs.declared.value.Entry.{Entry}
-use Rattle.values.specs.Means.{pairs}
+use Rattle.values.specs.Means.{val, pairs}
 
-pub returns-in-Ok : goal.returns-in-Ok
-returns-in-Ok c =
-    let s = entry_clones _ _ c.in_ok-table.ensures.items in
-    let l : c.in-Ok.place < length c.in_ok-table.table.items = omega (arith, c.in-Ok.ensures.within, c.in_ok-table.ensures.len) in
+pub returns : goal.returns
+returns c =
     let entry : Entry = record { key = c.args.key; associate = c.args.associate } in
-    let w = set_split c.in_ok-table.table.items c.in-Ok.place entry l in
-    let e = put_found _ _ s c.in-Ok.place true entry c.in-Ok.ensures.place in
-    record { value = search (rules, w, e); law = association _ _ _ _ (search (rules, w, e)) }
-
-pub returns-in_ok-insert-in-Err : goal.returns-in_ok-insert-in-Err
-returns-in_ok-insert-in-Err c =
-    let s = entry_clones _ _ c.in_ok-table.ensures.items in
-    let e = ap pairs c.in_ok-insert-in-Err.ensures.items ∙ put_found _ _ s c.in-Err.place false (record { key = c.args.key; associate = c.args.associate }) c.in-Err.ensures.place in
+    let j = joined_pairs _ _ _ _ c.in_ok-table.ensures in
+    let e : pairs c.in_ok-table.table.items ≡ associated (val c.args.key) (val c.args.associate) (pairs c.args.entries.now) = elim c.match-find.branch [
+      | in-Ok w ↦ (let f = put_found _ c.args.entries.now refl w.in-Ok.place true entry w.in-Ok.ensures.place in search (rules, f, j, to_end, add-one, w.from-is))
+      | in-Err w ↦ (let f = put_found _ c.args.entries.now refl w.in-Err.place false entry w.in-Err.ensures.place in search (rules, f, j, to_end, w.from-is))
+    ] in
     record { value = e; law = association _ _ _ _ e }
