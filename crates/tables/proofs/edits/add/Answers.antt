@@ -1,6 +1,5 @@
 use Rattle.std.proofs.Common.{true, false, refl, sym, ap, ◌∙◌, rules}
-use Rattle.lists.proofs.Joins.{to_end}
-use Rattle.std.proofs.lemmas.List.{take-append-drop}
+use Rattle.std.proofs.lemmas.List.{take-append-drop, take_rest}
 use Rattle.tables.proofs.Kept.{addition}
 use Rattle.tables.proofs.Places.{added_found, joined_pairs}
 use Rattle.tables.proofs.edits.add.Goals as goal
@@ -18,4 +17,4 @@ pub returns-in_ok-table-in-Err : goal.returns-in_ok-table-in-Err
 returns-in_ok-table-in-Err c =
     let j = joined_pairs _ _ _ _ c.in_ok-table-in-Err.ensures in
     let e = added_found _ c.args.entries.now refl c.in-Err.place false (record { key = c.args.key; associate = c.args.associate }) c.in-Err.ensures.place in
-    record { value = search (rules, e, j, to_end); law = addition _ _ _ _ (search (rules, e, j, to_end)) }
+    record { value = search (rules, e, j, take_rest); law = addition _ _ _ _ (search (rules, e, j, take_rest)) }
